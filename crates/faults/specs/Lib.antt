@@ -1,0 +1,2 @@
+-- The numbers of causes and layers.
+pub mod Numbers
