@@ -1,0 +1,4 @@
+-- Lemmas on settings.
+pub mod Absent
+pub mod Digits
+pub mod Figures
