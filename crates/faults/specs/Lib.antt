@@ -1,2 +1,3 @@
--- The numbers of causes and layers.
+-- The numbers of causes and layers, and ranges of figures.
 pub mod Numbers
+pub mod Ranges

@@ -1,10 +1,10 @@
 -- The number of each cause and of each layer, and the layer that each cause names.
 use Prim.Native.Nat.{ℕ}
-use Rattle.faults.specs.declared.Cause.{Cause}
-use Rattle.faults.specs.declared.Cause.the-variants.{HeightRange, WeightRange, GravityRange, LevelsFull, LevelAbsent, SettingUnknown, SettingRange, NoLevels, SettingAbsent, ShearLimit, ForceUncertain, ListShort, LineMalformed, FieldMalformed}
-use Rattle.faults.specs.declared.Fault.{Fault}
-use Rattle.faults.specs.declared.Layer.{Layer}
-use Rattle.faults.specs.declared.Layer.the-variants.{Tables, Sheet, Deck}
+use Rattle.faults.specs.declared.fault.Cause.{Cause}
+use Rattle.faults.specs.declared.fault.Cause.the-variants.{HeightRange, WeightRange, GravityRange, LevelsFull, LevelAbsent, SettingUnknown, SettingRange, NoLevels, SettingAbsent, ShearLimit, ForceUncertain, ListShort, LineMalformed, FieldMalformed}
+use Rattle.faults.specs.declared.fault.Fault.{Fault}
+use Rattle.faults.specs.declared.fault.Layer.{Layer}
+use Rattle.faults.specs.declared.fault.Layer.the-variants.{Tables, Sheet, Deck}
 
 abbrev pub layerNumber : Layer → ℕ
 layerNumber Tables = 1

@@ -22,9 +22,10 @@ abbrev pub Upto : Settings → ℕ → ℕ → Type 0
 Upto s m n = (m < 2 ^ n) × ((k : ℕ) → k < n → bit m k ≡ has s k)
 
 put : (s : Settings) (m n : ℕ) → Upto s m n → has s n ≡ 1 → Upto s (1 * 2 ^ n + m) (n + 1)
-put s m n u e =
-    (rw add-one (omega (arith, pow-suc 2 n, u .0)),
-    below-more (λ k. bit (1 * 2 ^ n + m) k ≡ has s k) n (λ k h. bit-other k n m h ∙ u .1 k h) (bit-same n m (u .0) ∙ sym e))
+put s m n u e = (
+  rw add-one (omega (arith, pow-suc 2 n, u .0)),
+  below-more (λ k. bit (1 * 2 ^ n + m) k ≡ has s k) n (λ k h. bit-other k n m h ∙ u .1 k h) (bit-same n m (u .0) ∙ sym e),
+)
 
 pass : (s : Settings) (m n : ℕ) → Upto s m n → has s n ≡ 0 → Upto s m (n + 1)
 pass s m n u e = (rw add-one (omega (arith, pow-suc 2 n, u .0)), below-more (λ k. bit m k ≡ has s k) n (u .1) (bit-past n m (u .0) ∙ sym e))

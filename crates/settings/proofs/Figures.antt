@@ -1,46 +1,39 @@
 -- A figure that is taken lies in its range, and once written it leaves every figure in its range.
 use mathlib.Core.Path.{_≡_, sym, ap, subst, _∙_}
-use mathlib.Core.Bool.{true, _&&_}
 use mathlib.Core.Logic.{⊎-elim}
 use Prim.Native.Nat.{ℕ, _<_, _≤_}
 use native.Mathlib.Omega.{arith}
-use lib.Dec.{leb}
 use lib.ListN.{length, set}
-use Rattle.faults.specs.declared.Fault.{Fault}
+use Rattle.faults.specs.Ranges.{Within}
 use Rattle.std.specs.Options.{Cases}
 use Rattle.std.specs.declared.option.Option.{Option}
 use Rattle.std.specs.declared.option.Option.the-variants.{None, Some}
 use Rattle.std.proofs.shelf.Lists.{getD-set-same, getD-set-other, getD-past, length-set}
-use Rattle.std.proofs.shelf.Tests.{cases-eq, cases-lt, and-parts, leb-true, cond-true}
+use Rattle.std.proofs.shelf.Tests.{cases-eq, cases-lt}
 use Rattle.settings.specs.declared.record.Settings.{Settings}
-use Rattle.settings.specs.declared.setting.Range.{Range}
+use Rattle.faults.specs.declared.range.Range.{Range}
 use Rattle.settings.specs.Ranges.{rangeAt}
-use Rattle.settings.specs.Figures.{entry, Within, InRange, written, refused, refusal}
+use Rattle.settings.specs.Figures.{entry, Allowed, InRange, written}
 
 none-some : (v : ℕ) → _≡_ {A = Option ℕ} None (Some v) → ⊥
 none-some v e = let z : _≡_ {A = ℕ} 0 1 = cc in omega arith
 
 -- a figure v that the setting n takes
-module _ (r : Range) (n v : ℕ) (is : Some r ≡ rangeAt n) (holds : (leb (r .least) v && leb v (r .greatest)) ≡ true) where
-  pub taken : None ≡ refusal n v
-  taken = sym (ap (λ (o : Option Range). refused o n v) (sym is) ∙ cond-true (leb (r .least) v && leb v (r .greatest)) None _ holds)
-
-  within : Within n v
-  within =
-      let p = and-parts (leb (r .least) v) (leb v (r .greatest)) holds in
-      subst (λ (o : Option Range). Cases o ⊥ (λ x. (x .least ≤ v) × (v ≤ x .greatest))) is (leb-true _ _ (p .0), leb-true _ _ (p .1))
+module _ (r : Range) (n v : ℕ) (is : Some r ≡ rangeAt n) (inside : Within r v) where
+  allowed : Allowed n v
+  allowed = subst (λ (o : Option Range). Cases o ⊥ (λ x. Within x v)) is inside
 
   -- what then stands at k is the figure v, or what stood there
   pub written-ranged : (s : Settings) → InRange s → InRange (written s n v)
   written-ranged s ranged k x stands =
-      ⊎-elim {C = Within k x}
+      ⊎-elim {C = Allowed k x}
       (λ (same : k ≡ n).
       let there : entry (written s n v) n ≡ Some x = ap (entry (written s n v)) (sym same) ∙ stands in
-      ⊎-elim {C = Within k x}
+      ⊎-elim {C = Allowed k x}
       (λ (l : n < length (s .entries)).
       let e : Some x ≡ Some v = sym there ∙ getD-set-same (s .entries) n (Some v) None l in
       let i : x ≡ v = cc in
-      rw (same, i) within)
+      rw (same, i) allowed)
       (λ (l : length (s .entries) ≤ n). absurd (none-some x (sym (getD-past (set (s .entries) n (Some v)) n None (rw length-set l)) ∙ there)))
       (cases-lt n (length (s .entries))))
       (λ other. ranged k x (sym (getD-set-other (s .entries) n k (Some v) None other) ∙ stands))

@@ -3,7 +3,8 @@ use Prim.Native.Nat.{ℕ}
 use mathlib.Core.List.{List, [], _∷_}
 use Rattle.std.specs.shelf.Maps.{nth}
 use Rattle.std.specs.declared.option.Option.{Option}
-use Rattle.settings.specs.declared.setting.Range.{Range}
+use Rattle.faults.specs.declared.range.Range.{Range}
+use Rattle.faults.specs.Ranges.{_to_}
 use Rattle.settings.specs.declared.setting.Setting.{Setting}
 use Rattle.settings.specs.declared.setting.Setting.the-variants.{R, I, T, Ta, Cu, Drift, Edge, Sds, Sd1, S1, Tl, Cd, Beta, Ca, Cv, Zn}
 
@@ -25,10 +26,6 @@ numberOf Beta = 12
 numberOf Ca = 13
 numberOf Cv = 14
 numberOf Zn = 15
-
-infixl 20 _to_
-abbrev pub _to_ : ℕ → ℕ → Range
-a to b = record { least = a; greatest = b }
 
 abbrev pub ranges : List Range
 ranges =

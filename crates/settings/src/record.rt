@@ -5,13 +5,13 @@ ghost use Prim.Native.Nat.{ℕ};
 ghost use Rattle.std.specs.Options.{isSome};
 ghost use Rattle.std.specs.Results.{isOk, errPart};
 ghost use Rattle.std.specs.declared.option.Option.the-variants.{None};
-ghost use Rattle.settings.specs.Figures.{entry, figure as figureOf, Within, InRange, written, refusal};
+ghost use Rattle.settings.specs.Figures.{entry, figure as figureOf, Allowed, InRange, written, refusal};
 ghost use Rattle.settings.specs.Ranges.{numberOf};
 use crate::setting::Setting;
 use crate::setting::range_of;
-use faults::Cause;
-use faults::Fault;
-use faults::Layer;
+use faults::fault::Cause;
+use faults::fault::Fault;
+use faults::fault::Layer;
 
 /// The figure of each setting, by number, or none where it is absent.
 #[derive(Clone, Copy)]
@@ -24,7 +24,9 @@ impl Settings {
     pub fn new() -> Settings
         ensures { λ r. ⌜ ((n : ℕ) → entry r n ≡ None) ⌝ }
     {
-        Settings { entries: [None; 16] }
+        Settings {
+            entries: [None; 16],
+        }
     }
 
     /// The figure of the setting with that number, if it has one.
@@ -46,9 +48,7 @@ impl Settings {
         let Some(range) = range_of(number) else {
             return Err(Fault::new(Layer::Tables, Cause::SettingUnknown, number));
         };
-        if !range.holds(value) {
-            return Err(Fault::new(Layer::Tables, Cause::SettingRange, number));
-        }
+        range.admit(value, Cause::SettingRange, number)?;
         self.entries[number as usize] = Some(value);
         Ok(())
     }
@@ -58,7 +58,7 @@ impl Settings {
         requires present { ⌜ isSome (entry (now self) (numberOf setting)) ≡ true ⌝ }
         requires ranged { ⌜ InRange (now self) ⌝ }
         ensures value { λ r. ⌜ r ≡ figureOf (now (self .entry)) setting ⌝ }
-        ensures within { λ r. ⌜ Within (numberOf setting) r ⌝ }
+        ensures within { λ r. ⌜ Allowed (numberOf setting) r ⌝ }
     {
         match self.get(setting.number()) {
             Some(figure) => figure,

@@ -1,8 +1,7 @@
 //! The settings by name and number, and the range of each.
 ghost use mathlib.Core.Path.{_≡_};
-ghost use lib.Dec.{leb};
-ghost use mathlib.Core.Bool.{_&&_};
 ghost use Rattle.settings.specs.Ranges.{numberOf, rangeAt};
+use faults::range::Range;
 
 /// A setting, by the name that the codes give it; its number is its place in this list.
 #[derive(Clone, Copy, PartialEq, Eq, Debug)]
@@ -47,22 +46,6 @@ impl Setting {
         ensures { λ r. ⌜ r ≡ numberOf self ⌝ }
     {
         self as u32
-    }
-}
-
-/// The figures that a setting may have.
-#[derive(Clone, Copy, PartialEq, Eq, Debug)]
-pub struct Range {
-    pub least: u32,
-    pub greatest: u32,
-}
-
-impl Range {
-    /// Whether a figure lies in the range.
-    pub fn holds(self, figure: u32) -> bool
-        ensures { λ r. ⌜ r ≡ (leb (self .least) figure && leb figure (self .greatest)) ⌝ }
-    {
-        self.least <= figure && figure <= self.greatest
     }
 }
 
