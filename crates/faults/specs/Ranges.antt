@@ -25,3 +25,9 @@ within r n = leb (r .least) n && leb n (r .greatest)
 -- why the figure n is refused, if it lies outside the range r
 abbrev pub outside : Range → Cause → ℕ → ℕ → Option Fault
 outside r c p n = cond (within r n) None (Some (fault Tables c p))
+
+-- the first of two refusals, tested in their order
+infixr 10 _orElse_
+abbrev pub _orElse_ : Option Fault → Option Fault → Option Fault
+Some f orElse g = Some f
+None orElse g = g

@@ -1,0 +1,3 @@
+-- Lemmas on levels.
+pub mod Reloaded
+pub mod Weights

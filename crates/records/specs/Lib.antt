@@ -1,0 +1,3 @@
+-- A level, and the table of levels.
+pub mod Level
+pub mod Levels
