@@ -1,0 +1,2 @@
+-- Lemmas on sharing.
+pub mod Laws

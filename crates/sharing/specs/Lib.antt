@@ -1,0 +1,2 @@
+-- What is true of an amount that is shared.
+pub mod Sharing

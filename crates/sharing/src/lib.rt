@@ -1,0 +1,3 @@
+//! Sharing an amount over bearers by their stakes: one text for every kind of bearer.
+pub mod bearer;
+pub mod parts;
