@@ -1,19 +1,21 @@
 -- A figure that is taken lies in its range, and once written it leaves every figure in its range.
-use mathlib.Core.Path.{_≡_, sym, ap, subst, _∙_}
+use mathlib.Core.Path.{_≡_, refl, sym, ap, subst, _∙_}
+use mathlib.Core.Bool.{true}
 use mathlib.Core.Logic.{⊎-elim}
 use Prim.Native.Nat.{ℕ, _<_, _≤_}
 use native.Mathlib.Omega.{arith}
 use lib.ListN.{length, set}
 use Rattle.faults.specs.Ranges.{Within}
-use Rattle.std.specs.Options.{Cases}
+use Rattle.std.specs.Options.{Cases, isSome, valueOr}
 use Rattle.std.specs.declared.option.Option.{Option}
 use Rattle.std.specs.declared.option.Option.the-variants.{None, Some}
 use Rattle.std.proofs.shelf.Lists.{getD-set-same, getD-set-other, getD-past, length-set}
-use Rattle.std.proofs.shelf.Tests.{cases-eq, cases-lt}
+use Rattle.std.proofs.shelf.Tests.{cases-eq, cases-lt, false≢true}
 use Rattle.settings.specs.declared.record.Settings.{Settings}
 use Rattle.faults.specs.declared.range.Range.{Range}
-use Rattle.settings.specs.Ranges.{rangeAt}
-use Rattle.settings.specs.Figures.{entry, Allowed, InRange, written}
+use Rattle.settings.specs.declared.setting.Setting.{Setting}
+use Rattle.settings.specs.Ranges.{numberOf, rangeAt}
+use Rattle.settings.specs.Figures.{entry, figure, Allowed, InRange, written}
 
 none-some : (v : ℕ) → _≡_ {A = Option ℕ} None (Some v) → ⊥
 none-some v e = let z : _≡_ {A = ℕ} 0 1 = cc in omega arith
@@ -38,3 +40,11 @@ module _ (r : Range) (n v : ℕ) (is : Some r ≡ rangeAt n) (inside : Within r 
       (cases-lt n (length (s .entries))))
       (λ other. ranged k x (sym (getD-set-other (s .entries) n k (Some v) None other) ∙ stands))
       (cases-eq k n)
+
+value-allowed : (n : ℕ) (o : Option ℕ) → isSome o ≡ true → ((v : ℕ) → o ≡ Some v → Allowed n v) → Allowed n (valueOr o 0)
+value-allowed n (Some x) e h = h x refl
+value-allowed n None e h = absurd (false≢true e)
+
+-- the figure of a setting that has one is in its range
+pub figure-allowed : (s : Settings) (k : Setting) → isSome (entry s (numberOf k)) ≡ true → InRange s → Allowed (numberOf k) (figure s k)
+figure-allowed s k e h = value-allowed (numberOf k) (entry s (numberOf k)) e (h (numberOf k))

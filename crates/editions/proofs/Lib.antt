@@ -1,0 +1,3 @@
+-- Lemmas on fractions and editions.
+pub mod Fractions
+pub mod Nehrp
