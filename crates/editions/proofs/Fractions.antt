@@ -1,15 +1,13 @@
 -- Laws of fractions.
-use mathlib.Core.Path.{_≡_, refl, ap, sym, _∙_, subst}
-use mathlib.Core.Bool.{Bool, cond, true, false}
-use mathlib.Core.Logic.{_⊎_, inl, inr}
+use mathlib.Core.Path.{_≡_}
 use Prim.Native.Nat.{ℕ, zero, suc, _+_, _*_, _/_, _%_, _<_, _≤_, min}
-use native.Mathlib.Nat.{mul-le-mul-right, mul-le-mul-left, le-of-mul-le-mul-right, lt-of-mul-lt-mul-right, mul-right-comm, mul-assoc, mul-comm, add-mul, mul-one, mul-pos, zero-mul, mod-lt, le-trans}
+use native.Mathlib.Nat.{mul-le-mul-right, le-of-mul-le-mul-right, lt-of-mul-lt-mul-right, mul-right-comm, add-mul, mul-pos, zero-mul, mod-lt}
 use native.Mathlib.Omega.{arith}
 use lib.Dec.{leb}
 use Rattle.std.proofs.shelf.Bits.{div-add-mod'}
 use Rattle.std.proofs.shelf.Tests.{cond-both, leb-true, leb-false}
 use Rattle.editions.specs.declared.ratio.Ratio.{Ratio}
-use Rattle.editions.specs.Ratios.{_over_, AtMost, smaller, larger, up, Ceiling}
+use Rattle.editions.specs.Ratios.{AtMost, smaller, larger, up, Ceiling}
 
 above : (q r d n : ℕ) → q * d + r ≡ n → r < d → n ≤ (q + min 1 r) * d
 above q zero d n e h = rw add-mul (omega arith)
@@ -42,7 +40,7 @@ pub at-most-trans : (p q s : Ratio) → 0 < q .den → AtMost p q → AtMost q s
 at-most-trans p q s d h k =
     let a : p .num * s .den * q .den ≤ q .num * p .den * s .den = rw (mul-right-comm (p .num) (s .den) (q .den)) (mul-le-mul-right (s .den) h) in
     let b : q .num * p .den * s .den ≤ s .num * p .den * q .den =
-            rw (mul-right-comm (q .num) (p .den) (s .den), mul-right-comm (s .num) (p .den) (q .den)) (mul-le-mul-right (p .den) k) in
+    rw (mul-right-comm (q .num) (p .den) (s .den), mul-right-comm (s .num) (p .den) (q .den)) (mul-le-mul-right (p .den) k) in
     le-of-mul-le-mul-right {k = q .den} (omega arith) d
 
 pub smaller-left : (p q : Ratio) → AtMost (smaller p q) p

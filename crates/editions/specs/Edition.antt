@@ -2,7 +2,6 @@
 use Prim.Native.Nat.{ℕ, _≤_, _<_}
 use mathlib.Core.Path.{_≡_}
 use Rattle.settings.specs.declared.record.Settings.{Settings}
-use Rattle.settings.specs.declared.setting.Setting.{Setting}
 use Rattle.settings.specs.declared.setting.Setting.the-variants.{T, Ta, Cu, Drift, Edge}
 use Rattle.settings.specs.Figures.{entry, InRange}
 use Rattle.settings.specs.Ranges.{numberOf}

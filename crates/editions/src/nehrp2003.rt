@@ -1,6 +1,5 @@
 //! NEHRP 2003, edition 1.
 ghost use mathlib.Core.Path.{_≡_};
-ghost use Prim.Native.Nat.{_≤_};
 ghost use Rattle.settings.specs.Figures.{InRange};
 ghost use Rattle.settings.specs.Sets.{Present};
 ghost use Rattle.editions.specs.Nehrp2003.{needed as neededSet, figures, Fair, Loaded, periodTerm, governing as governingOf, exponent as exponentOf, meaning as meaningOf};

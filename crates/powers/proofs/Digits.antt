@@ -1,12 +1,11 @@
 -- The pair that the digits lead to encloses the power.
-use mathlib.Core.Path.{_≡_, refl, sym, ap, ap₂, subst, _∙_}
+use mathlib.Core.Path.{_≡_, refl, sym, ap, subst, _∙_}
 use mathlib.Core.Bool.{Bool, true, false}
 use Prim.Native.Nat.{ℕ, zero, suc, _+_, _-_, _*_, _/_, _%_, _^_, _≤_, _<_}
-use native.Mathlib.Nat.{div-mul-le-self, pow-suc, two-pow-succ, mul-div-mul-right, mul-div-mul-left, mul-div-cancel, mul-div-cancel-left, mul-mod-right, div-div-eq-div-mul, mul-assoc, mul-comm, lt-mul-div-succ, mul-le-mul-right, mul-le-mul, div-lt-iff-lt-mul}
-use native.Mathlib.Numerals.{add-one}
+use native.Mathlib.Nat.{div-mul-le-self, pow-suc, two-pow-succ, mul-div-mul-right, mul-div-cancel, mul-div-cancel-left, mul-mod-right, div-div-eq-div-mul, mul-assoc, mul-le-mul-right, mul-le-mul, div-lt-iff-lt-mul}
 use native.Mathlib.Omega.{arith}
 use lib.Dec.{eqb}
-use lib.Pow.{pow-pos, pow-add}
+use lib.Pow.{pow-pos}
 use borrow.Author.Tests.{eqb-true, eqb-false}
 use Rattle.powers.specs.declared.enclosure.Enclosure.{Enclosure}
 use Rattle.powers.specs.declared.height.Progress.{Progress}

@@ -1,8 +1,8 @@
 -- The laws of an enclosure, over any scale q, any base n of the exponent and any exponent k.
-use mathlib.Core.Path.{_≡_, refl, sym, ap, subst, _∙_}
+use mathlib.Core.Path.{_≡_, sym, ap, _∙_}
 use mathlib.Core.Logic.{_≢_}
-use Prim.Native.Nat.{ℕ, zero, suc, _+_, _*_, _/_, _%_, _^_, _≤_, _<_}
-use native.Mathlib.Nat.{mul-le-mul, mul-le-mul-left, mul-le-mul-right, le-of-mul-le-mul-right, pow-zero, pow-suc, pow-le-pow-left, pow-lt-pow-left, one-le-pow, le-dest, mul-pos, one-mul, mul-zero, mul-suc, mul-mul-mul-comm}
+use Prim.Native.Nat.{ℕ, zero, suc, _+_, _*_, _^_, _≤_, _<_}
+use native.Mathlib.Nat.{mul-le-mul, mul-le-mul-right, le-of-mul-le-mul-right, pow-zero, pow-suc, pow-le-pow-left, pow-lt-pow-left, one-le-pow, one-mul, mul-zero, mul-suc, mul-mul-mul-comm}
 use native.Mathlib.Omega.{arith, by-contra}
 use lib.Pow.{pow-add}
 use Rattle.powers.specs.Law.{Encloses}

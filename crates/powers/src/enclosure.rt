@@ -11,21 +11,21 @@ pub const SCALE: u64 = 67_108_864;
 /// A number between `lo / SCALE` and `hi / SCALE`.
 #[derive(Clone, Copy, PartialEq, Eq, Debug)]
 pub struct Enclosure {
-    pub lo: u64,
-    pub hi: u64,
+    pub lo: u32,
+    pub hi: u32,
 }
 
 impl Enclosure {
     /// `height / roof`.
     pub(crate) fn of_ratio(height: u32, roof: u32) -> Enclosure
-        requires { ⌜ 0 < roof ⌝ }
+        requires { ⌜ 0 < roof ⌝ ∗ ⌜ height ≤ roof ⌝ }
         ensures { λ r. ⌜ r ≡ ratio height roof ⌝ }
     {
         let whole = height as u64 * SCALE;
         let roof = roof as u64;
         Enclosure {
-            lo: whole / roof,
-            hi: whole.div_ceil(roof),
+            lo: (whole / roof) as u32,
+            hi: whole.div_ceil(roof) as u32,
         }
     }
 
@@ -36,8 +36,8 @@ impl Enclosure {
         ensures small { λ r. ⌜ Small r ⌝ }
     {
         Enclosure {
-            lo: floor_root(self.lo * SCALE),
-            hi: ceil_root(self.hi * SCALE),
+            lo: floor_root(self.lo as u64 * SCALE) as u32,
+            hi: ceil_root(self.hi as u64 * SCALE) as u32,
         }
     }
 
@@ -46,9 +46,11 @@ impl Enclosure {
         requires { ⌜ Small self ⌝ ∗ ⌜ Small by ⌝ }
         ensures { λ r. ⌜ r ≡ times self by ⌝ }
     {
+        let lo = self.lo as u64 * by.lo as u64;
+        let hi = self.hi as u64 * by.hi as u64;
         Enclosure {
-            lo: self.lo * by.lo / SCALE,
-            hi: (self.hi * by.hi).div_ceil(SCALE),
+            lo: (lo / SCALE) as u32,
+            hi: hi.div_ceil(SCALE) as u32,
         }
     }
 }

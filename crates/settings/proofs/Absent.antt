@@ -1,7 +1,7 @@
 -- The mask of what is present grows by one digit a turn, and the lowest digit that is needed and not present.
 use mathlib.Core.Path.{_≡_, refl, ap, sym, _∙_, subst}
 use mathlib.Core.Bool.{true, false, cond}
-use Prim.Native.Nat.{ℕ, zero, suc, _+_, _-_, _*_, _/_, _%_, _^_, _<_, _≤_, min}
+use Prim.Native.Nat.{ℕ, _+_, _-_, _*_, _%_, _^_, _<_, _≤_, min}
 use native.Mathlib.Nat.{pow-suc}
 use native.Mathlib.Numerals.{add-one}
 use native.Mathlib.Omega.{arith}
@@ -15,7 +15,7 @@ use Rattle.std.specs.declared.option.Option.the-variants.{None, Some}
 use Rattle.std.specs.Options.{isSome}
 use Rattle.settings.specs.declared.record.Settings.{Settings}
 use Rattle.settings.specs.Figures.{entry}
-use Rattle.settings.specs.Sets.{bit, flag, has, Member, Present, Least}
+use Rattle.settings.specs.Sets.{bit, flag, has, Present, Least}
 use Rattle.settings.proofs.Digits.{bit-below, bit-past, bit-same, bit-other, bit-and, bit-not, none-set, lowest, Low}
 
 abbrev pub Upto : Settings → ℕ → ℕ → Type 0

@@ -1,12 +1,12 @@
 -- The first n of a row of cells.
 use mathlib.Core.Path.{_≡_, refl, sym, ap, subst, _∙_}
-use mathlib.Core.List.{List, [], _∷_, _++_}
+use mathlib.Core.List.{List, [], _∷_}
 use Prim.Native.Nat.{ℕ, zero, suc, _+_, _-_, _<_, _≤_}
 use native.Mathlib.Nat.{not-suc-le-zero, le-of-suc-le-suc}
 use native.Mathlib.Numerals.{add-one}
 use native.Mathlib.Omega.{arith}
-use lib.ListN.{length, take, drop, getD, set}
-use Rattle.std.proofs.shelf.Lists.{getD-take, getD-default, length-take}
+use lib.ListN.{length, take, getD, set}
+use Rattle.std.proofs.shelf.Lists.{getD-take, getD-default}
 use Rattle.std.specs.Holes.{inserted, removed}
 
 module _ {R : Type 0} where

@@ -1,7 +1,7 @@
 //! The plain table: records at the front of an array, changed by place with no regard to keys. It has no invariant.
 ghost use mathlib.Core.Path.{_≡_};
 ghost use mathlib.Core.List.{[]};
-ghost use Prim.Native.Nat.{ℕ, _<_, _≤_};
+ghost use Prim.Native.Nat.{_<_, _≤_};
 ghost use lib.ListN.{length, getD, set};
 ghost use Rattle.std.specs.Holes.{inserted, removed};
 ghost use Rattle.tables.specs.Rows.{rows, Whole};

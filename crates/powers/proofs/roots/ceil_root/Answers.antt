@@ -1,8 +1,7 @@
 -- One more than the root rounded down, unless that is exact.
-use mathlib.Core.Path.{_≡_, ap, _∙_}
-use Prim.Native.Nat.{ℕ}
+use mathlib.Core.Path.{ap, _∙_}
 use native.Mathlib.Omega.{arith}
-use Rattle.powers.specs.Roots.{lowerRoot, enough}
+use Rattle.powers.specs.Roots.{enough}
 use Rattle.powers.proofs.Root.{lower-of, enough-more, enough-same}
 use Rattle.powers.proofs.roots.ceil_root.Needs as need
 

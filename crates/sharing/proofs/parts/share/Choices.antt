@@ -1,7 +1,5 @@
 -- What the bearers so far have got, and the remainder.
-use mathlib.Core.Path.{_≡_}
 use mathlib.Core.List.{map}
-use Rattle.std.specs.shelf.Lists.{sum}
 use Rattle.sharing.proofs.Laws.{Sofar}
 use Rattle.sharing.proofs.parts.share.Given as given
 

@@ -1,5 +1,5 @@
 -- The governing fraction has a positive base, and rounded up it fits 32 bits.
-use mathlib.Core.Path.{_≡_, sym, ap, subst, _∙_}
+use mathlib.Core.Path.{sym, ap, subst, _∙_}
 use Prim.Native.Nat.{ℕ, _≤_, _<_}
 use mir.Facts.{fits-below}
 use Rattle.editions.specs.declared.ratio.Ratio.{Ratio}

@@ -1,5 +1,4 @@
 -- The level at the height is lent and given its two figures; the table is then written whole.
-use Rattle.records.specs.Levels.{listed}
 use Rattle.records.proofs.Reloaded.{reloaded-whole, reloaded-entered, reload-taken}
 use Rattle.records.proofs.levels.Levels.enter.Needs as need
 

@@ -1,12 +1,10 @@
 -- One weight more, at each turn.
-use mathlib.Core.Path.{_∙_, ap, sym}
-use mathlib.Core.List.{List}
+use mathlib.Core.Path.{_∙_, ap}
 use native.Mathlib.Omega.{arith}
 use lib.ListN.{length}
 use Rattle.std.specs.shelf.Lists.{sumBy}
 use Rattle.std.proofs.shelf.Lists.{take-all}
 use Rattle.std.proofs.shelf.Sums.{sumBy-more}
-use Rattle.records.specs.declared.level.Level.{Level}
 use Rattle.records.specs.Level.{level, weightOf}
 use Rattle.records.proofs.Weights.{weight-at}
 use Rattle.records.proofs.levels.Levels.total_weight.Needs as need

@@ -1,7 +1,7 @@
 -- The weights of the levels passed; each is from 1 to 60,000.
 use mathlib.Core.Path.{_≡_}
 use Prim.Native.Nat.{_≤_, _*_}
-use lib.ListN.{take, length}
+use lib.ListN.{take}
 use Rattle.std.specs.shelf.Lists.{sumBy}
 use Rattle.records.specs.Level.{weightOf}
 use Rattle.records.proofs.levels.Levels.total_weight.Given as given

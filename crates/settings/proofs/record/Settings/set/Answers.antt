@@ -1,5 +1,5 @@
 -- A figure within its range is written, and every figure stays in its range.
-use mathlib.Core.Path.{refl, sym, ap, _∙_}
+use mathlib.Core.Path.{refl, ap, _∙_}
 use Rattle.std.specs.declared.option.Option.{Option}
 use Rattle.faults.specs.declared.range.Range.{Range}
 use Rattle.settings.specs.Figures.{refused}
