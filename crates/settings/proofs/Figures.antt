@@ -6,7 +6,7 @@ use Prim.Native.Nat.{ℕ, _<_, _≤_}
 use native.Mathlib.Omega.{arith}
 use lib.ListN.{length, set}
 use Rattle.faults.specs.Ranges.{Within}
-use Rattle.std.specs.Options.{Cases, isSome, valueOr}
+use Rattle.std.specs.Options.{isSome, valueOr}
 use Rattle.std.specs.declared.option.Option.{Option}
 use Rattle.std.specs.declared.option.Option.the-variants.{None, Some}
 use Rattle.std.proofs.shelf.Lists.{getD-set-same, getD-set-other, getD-past, length-set}
@@ -15,7 +15,7 @@ use Rattle.settings.specs.declared.record.Settings.{Settings}
 use Rattle.faults.specs.declared.range.Range.{Range}
 use Rattle.settings.specs.declared.setting.Setting.{Setting}
 use Rattle.settings.specs.Ranges.{numberOf, rangeAt}
-use Rattle.settings.specs.Figures.{entry, figure, Allowed, InRange, written}
+use Rattle.settings.specs.Figures.{entry, figure, nothing, Allowed, InRange, written}
 
 none-some : (v : ℕ) → _≡_ {A = Option ℕ} None (Some v) → ⊥
 none-some v e = let z : _≡_ {A = ℕ} 0 1 = cc in omega arith
@@ -23,7 +23,7 @@ none-some v e = let z : _≡_ {A = ℕ} 0 1 = cc in omega arith
 -- a figure v that the setting n takes
 module _ (r : Range) (n v : ℕ) (is : Some r ≡ rangeAt n) (inside : Within r v) where
   allowed : Allowed n v
-  allowed = subst (λ (o : Option Range). Cases o ⊥ (λ x. Within x v)) is inside
+  allowed = subst (λ (o : Option Range). Within (valueOr o nothing) v) is inside
 
   -- what then stands at k is the figure v, or what stood there
   pub written-ranged : (s : Settings) → InRange s → InRange (written s n v)

@@ -2,3 +2,4 @@
 pub mod Absent
 pub mod Digits
 pub mod Figures
+pub mod First

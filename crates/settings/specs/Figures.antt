@@ -4,12 +4,12 @@ use mathlib.Core.Path.{_≡_}
 use lib.ListN.{getD, set}
 use Rattle.std.specs.declared.option.Option.{Option}
 use Rattle.std.specs.declared.option.Option.the-variants.{None, Some}
-use Rattle.std.specs.Options.{Cases, valueOr}
+use Rattle.std.specs.Options.{valueOr}
 use Rattle.faults.specs.declared.fault.Fault.{Fault}
 use Rattle.faults.specs.declared.fault.Cause.the-variants.{SettingUnknown, SettingRange}
 use Rattle.faults.specs.declared.fault.Layer.the-variants.{Tables}
 use Rattle.faults.specs.Numbers.{fault}
-use Rattle.faults.specs.Ranges.{Within, outside}
+use Rattle.faults.specs.Ranges.{_to_, Within, outside}
 use Rattle.settings.specs.declared.record.Settings.{Settings}
 use Rattle.faults.specs.declared.range.Range.{Range}
 use Rattle.settings.specs.declared.setting.Setting.{Setting}
@@ -23,9 +23,13 @@ entry s n = getD (s .entries) n None
 abbrev pub figure : Settings → Setting → ℕ
 figure s k = valueOr (entry s (numberOf k)) 0
 
+-- no figure lies in it
+abbrev pub nothing : Range
+nothing = 1 to 0
+
 -- v lies in the range of the setting n; at a number that is no setting's, nothing does
 abbrev pub Allowed : ℕ → ℕ → Type 0
-Allowed n v = Cases (rangeAt n) ⊥ (λ r. Within r v)
+Allowed n v = Within (valueOr (rangeAt n) nothing) v
 
 -- every figure that stands is in its range
 abbrev pub InRange : Settings → Type 0

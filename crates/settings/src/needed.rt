@@ -1,7 +1,7 @@
 //! Sets of settings, a binary digit for each number, and the lowest of a needed set that is absent.
 ghost use mathlib.Core.Path.{_≡_};
 ghost use Prim.Native.Nat.{ℕ, _<_};
-ghost use Rattle.settings.specs.Sets.{bit, has, Lowest};
+ghost use Rattle.settings.specs.Sets.{bit, has, Lowest, lowestAbsent};
 use crate::record::Settings;
 
 impl Settings {
@@ -20,7 +20,8 @@ impl Settings {
 
     /// The lowest setting of a needed set that has no figure, if there is one.
     pub fn lowest_absent(&self, needs: u16) -> Option<u32>
-        ensures { λ r. ⌜ Lowest (now (self .entry)) needs r ⌝ }
+        ensures value { λ r. ⌜ r ≡ lowestAbsent (now (self .entry)) needs ⌝ }
+        ensures lowest { λ r. ⌜ Lowest (now (self .entry)) needs r ⌝ }
     {
         let missing = needs & !self.present();
         if missing == 0 {
