@@ -1,0 +1,2 @@
+-- Lemmas on the grammar.
+pub mod Shorter
