@@ -1,4 +1,4 @@
--- The laws of `wrote`: its length, one text after another, one byte, and the digits of a number.
+-- What is written into a buffer: its length, one text after another, one byte, and the digits of a number.
 use mathlib.Core.Path.{_≡_, sym, ap, _∙_}
 use mathlib.Core.List.{List, [], _∷_, _++_, append-assoc}
 use Prim.Native.Nat.{ℕ, _+_, _-_, _/_, _%_, _^_, _≤_, _<_}
@@ -10,7 +10,7 @@ use lib.ListN.{length, take, drop, set}
 use Rattle.std.specs.Written.{decimal}
 use Rattle.std.proofs.shelf.Lists.{length-take-le, length-append, length-drop, take-at, drop-at, drop-drop, set-split, take-append-drop}
 use Rattle.std.proofs.shelf.Decimals.{decimal-digit, decimal-step, length-decimal-le}
-use Rattle.bytes.specs.Wrote.{wrote}
+use Rattle.bytes.specs.Wrote.{wrote, Puts, field}
 
 pub wrote-part : (xs : List ℕ) (at : ℕ) (ys zs : List ℕ) → zs ≡ ys → putMid at (at + length ys - at) xs zs ≡ wrote xs at ys
 unfolding wrote
@@ -77,19 +77,35 @@ wrote-last xs at ys b h =
     let i : at + length ys < length (wrote xs at ys) = omega arith in
     wrote-one (wrote xs at ys) (at + length ys) b i ∙ wrote-more xs at ys (b ∷ []) k
 
--- o is xs with ys written from `at` on, which ends at i
-abbrev pub Wrote : List ℕ → ℕ → List ℕ → ℕ → List ℕ → Type 0
-Wrote xs at o i ys = (o ≡ wrote xs at ys) × (i ≡ at + length ys)
-
-pub then : (xs : List ℕ) (at : ℕ) (o : List ℕ) (i : ℕ) (p : List ℕ) (j : ℕ) (ys zs : List ℕ) → Wrote xs at o i ys → Wrote o i p j zs → i ≤ length xs → Wrote xs at p j (ys ++ zs)
-then xs at o i p j ys zs u v h =
+-- one text after another
+pub puts-more : (xs : List ℕ) (at : ℕ) (ys zs os : List ℕ) (i : ℕ) (ps : List ℕ) (j : ℕ) → Puts xs at ys os i → Puts os i zs ps j → i ≤ length xs → Puts xs at (ys ++ zs) ps j
+puts-more xs at ys zs os i ps j u v h =
     let k : at + length ys ≤ length xs = omega arith in
     let l = length-append ys zs in
-    (v .0 ∙ ap (λ (z : List ℕ). wrote z i zs) (u .0) ∙ ap (λ (z : ℕ). wrote (wrote xs at ys) z zs) (u .1) ∙ wrote-more xs at ys zs k, omega arith)
+    record {
+      bytes = v .bytes ∙ ap (λ (z : List ℕ). wrote z i zs) (u .bytes) ∙ ap (λ (z : ℕ). wrote (wrote xs at ys) z zs) (u .ends) ∙ wrote-more xs at ys zs k;
+      ends = omega arith;
+    }
 
-pub short : (n : ℕ) → n < 2 ^ 64 → length (decimal n) ≤ 20
-short n h = length-decimal-le 20 n (omega arith) (omega arith) h
+pub length-field : (n mark : ℕ) → length (field n mark) ≡ length (decimal n) + 1
+unfolding field
+length-field n mark = length-append (decimal n) (mark ∷ [])
 
-pub wrote-none : (xs : List ℕ) (at : ℕ) → wrote xs at [] ≡ xs
+pub wrote-field : (xs : List ℕ) (at n mark : ℕ) → at + length (decimal n) < length xs → set (wrote xs at (decimal n)) (at + length (decimal n)) mark ≡ wrote xs at (field n mark)
+unfolding field
+wrote-field xs at n mark h = wrote-last xs at (decimal n) mark h
+
+-- a number of 32 or 64 bits has at most 10 or 20 digits
+pub field-32 : (n mark : ℕ) → n < 2 ^ 32 → length (field n mark) ≤ 11
+field-32 n mark h = omega (arith, length-field n mark, length-decimal-le 10 n (omega arith) (omega arith) (omega arith))
+
+pub field-64 : (n mark : ℕ) → n < 2 ^ 64 → length (field n mark) ≤ 21
+field-64 n mark h = omega (arith, length-field n mark, length-decimal-le 20 n (omega arith) (omega arith) h)
+
+pub puts-none : (xs : List ℕ) (at : ℕ) → Puts xs at [] xs at
 unfolding wrote
-wrote-none xs at = ap (λ (n : ℕ). take at xs ++ drop n xs) (add-zero at) ∙ take-append-drop at xs
+puts-none xs at = record { bytes = sym (ap (λ (n : ℕ). take at xs ++ drop n xs) (add-zero at) ∙ take-append-drop at xs); ends = omega arith }
+
+-- what was written stands in front, and the rest of the buffer keeps its contents
+pub puts-length : (xs : List ℕ) (at : ℕ) (ys os : List ℕ) (i : ℕ) → Puts xs at ys os i → i ≤ length xs → length os ≡ length xs
+puts-length xs at ys os i u h = ap length (u .bytes) ∙ length-wrote xs at ys (omega (arith, u .ends))

@@ -5,7 +5,7 @@ ghost use lib.ListN.{length};
 ghost use Rattle.std.specs.Options.{Cases};
 ghost use Rattle.std.specs.Written.{decimal};
 ghost use Rattle.bytes.specs.Numbers.{numberIn, Number};
-ghost use Rattle.bytes.specs.Wrote.{wrote};
+ghost use Rattle.bytes.specs.Wrote.{Puts};
 
 /// The number that one to nine digits write, and nothing for any other word.
 pub fn read_number(word: &[u8]) -> Option<u32>
@@ -28,8 +28,7 @@ pub fn read_number(word: &[u8]) -> Option<u32>
 /// Writes the decimal digits of `n` into `out` from `at` on, and answers where they end.
 pub fn put_number(out: &mut [u8], at: usize, n: u64) -> usize
     requires { ⌜ at + length (decimal n) ≤ length (now out) ⌝ }
-    ensures bytes { λ _. ⌜ now (out .exit) ≡ wrote (now (out .entry)) at (decimal n) ⌝ }
-    ensures end { λ r. ⌜ r ≡ at + length (decimal n) ⌝ }
+    ensures { λ r. ⌜ Puts (now (out .entry)) at (decimal n) (now (out .exit)) r ⌝ }
 {
     let last = if n < 10 {
         at

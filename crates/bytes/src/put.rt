@@ -1,15 +1,13 @@
 //! Texts and fields written into a buffer. Each call answers where it ended.
-ghost use mathlib.Core.Path.{_≡_};
 ghost use Prim.Native.Nat.{_+_, _≤_};
 ghost use lib.ListN.{length};
-ghost use Rattle.bytes.specs.Wrote.{wrote, field};
+ghost use Rattle.bytes.specs.Wrote.{Puts, field};
 use crate::number::put_number;
 
 /// Writes `text` into `out` from `at` on.
 pub fn put_bytes(out: &mut [u8], at: usize, text: &[u8]) -> usize
     requires { ⌜ at + length (now text) ≤ length (now out) ⌝ }
-    ensures bytes { λ _. ⌜ now (out .exit) ≡ wrote (now (out .entry)) at (now (text .entry)) ⌝ }
-    ensures end { λ r. ⌜ r ≡ at + length (now (text .entry)) ⌝ }
+    ensures { λ r. ⌜ Puts (now (out .entry)) at (now (text .entry)) (now (out .exit)) r ⌝ }
 {
     let end = at + text.len();
     out[at..end].copy_from_slice(text);
@@ -18,10 +16,8 @@ pub fn put_bytes(out: &mut [u8], at: usize, text: &[u8]) -> usize
 
 /// Writes `n` in decimal and then the byte `mark`.
 pub fn put_field(out: &mut [u8], at: usize, n: u64, mark: u8) -> usize
-    requires { ⌜ at + 21 ≤ length (now out) ⌝ }
-    ensures bytes { λ _. ⌜ now (out .exit) ≡ wrote (now (out .entry)) at (field n mark) ⌝ }
-    ensures end { λ r. ⌜ r ≡ at + length (field n mark) ⌝ }
-    ensures bound { λ r. ⌜ r ≤ at + 21 ⌝ }
+    requires { ⌜ at + length (field n mark) ≤ length (now out) ⌝ }
+    ensures { λ r. ⌜ Puts (now (out .entry)) at (field n mark) (now (out .exit)) r ⌝ }
 {
     let last = put_number(out, at, n);
     out[last] = mark;

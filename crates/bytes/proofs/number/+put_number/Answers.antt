@@ -17,14 +17,14 @@ pub index-out-last : need.index-out-last
 index-out-last t c =
     elim (c .if-n-lt10 .came) [
       | then-n-lt10 w ↦ let l = ap length (decimal-digit (c .args .n) (w .if-n-lt10 .taken)) in omega (arith, l, w .last-is)
-      | else-n-lt10 w ↦ let l = length-more (c .args .n) (w .if-n-lt10 .left) (c .fits .n .fits) in omega (arith, l, w .last-is, w .put-number-last .ensures .end)
+      | else-n-lt10 w ↦ let l = length-more (c .args .n) (w .if-n-lt10 .left) (c .fits .n .fits) in omega (arith, l, w .last-is, w .put-number-last .ensures .ends)
     ]
 
 pub add-result : need.add-result
 add-result t c =
     let k : c .if-n-lt10 .last < length (c .if-n-lt10 .out) = elim (c .if-n-lt10 .came) [
       | then-n-lt10 w ↦ let l = ap length (decimal-digit (c .args .n) (w .if-n-lt10 .taken)) in omega (arith, l, w .last-is)
-      | else-n-lt10 w ↦ let l = length-more (c .args .n) (w .if-n-lt10 .left) (c .fits .n .fits) in omega (arith, l, w .last-is, w .put-number-last .ensures .end)
+      | else-n-lt10 w ↦ let l = length-more (c .args .n) (w .if-n-lt10 .left) (c .fits .n .fits) in omega (arith, l, w .last-is, w .put-number-last .ensures .ends)
     ] in
     search needs
 
@@ -38,11 +38,11 @@ returns t c =
       | then-n-lt10 w ↦
           let l = ap length (decimal-digit n (w .if-n-lt10 .taken)) in
           let h : at < length xs = omega arith in
-          record { bytes = ap (λ (o : List ℕ). P o (c .if-n-lt10 .last)) (w .out-is) ∙ ap (P xs) (w .last-is) ∙ digit-one xs at n (w .if-n-lt10 .taken) h; end = omega (arith, l, w .last-is) }
+          record { bytes = ap (λ (o : List ℕ). P o (c .if-n-lt10 .last)) (w .out-is) ∙ ap (P xs) (w .last-is) ∙ digit-one xs at n (w .if-n-lt10 .taken) h; ends = omega (arith, l, w .last-is) }
       | else-n-lt10 w ↦
           let l = length-more n (w .if-n-lt10 .left) (c .fits .n .fits) in
           record {
-            bytes = ap (λ (o : List ℕ). P o (c .if-n-lt10 .last)) (w .out-is ∙ w .put-number-last .ensures .bytes) ∙ ap (P _) (w .last-is ∙ w .put-number-last .ensures .end) ∙ digit-more xs at n (w .if-n-lt10 .left) (c .fits .n .fits) (c .pre);
-            end = omega (arith, l, w .last-is, w .put-number-last .ensures .end);
+            bytes = ap (λ (o : List ℕ). P o (c .if-n-lt10 .last)) (w .out-is ∙ w .put-number-last .ensures .bytes) ∙ ap (P _) (w .last-is ∙ w .put-number-last .ensures .ends) ∙ digit-more xs at n (w .if-n-lt10 .left) (c .fits .n .fits) (c .pre);
+            ends = omega (arith, l, w .last-is, w .put-number-last .ensures .ends);
           }
     ]
