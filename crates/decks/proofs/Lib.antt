@@ -1,0 +1,2 @@
+-- Lemmas on the deck's answer.
+pub mod Lines

@@ -1,0 +1,2 @@
+-- The bytes of the deck's answer.
+pub mod Listing

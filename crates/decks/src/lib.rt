@@ -1,0 +1,2 @@
+//! The deck's answer: a building's figures in, its listing or its fault out, as bytes.
+pub mod listing;
