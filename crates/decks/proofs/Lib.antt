@@ -1,2 +1,3 @@
 -- Lemmas on the deck's answer.
 pub mod Lines
+pub mod Outcome

@@ -3,7 +3,7 @@ use mathlib.Core.Path.{_≡_, refl, sym, ap, _∙_}
 use mathlib.Core.List.{List, [], _∷_, _++_, append-assoc, append-nil}
 use Prim.Native.Nat.{ℕ, _+_, _<_}
 use lib.ListN.{length, take, getD}
-use Rattle.std.proofs.shelf.Lists.{take-more, take-all}
+use Rattle.std.proofs.shelf.Lists.{take-more}
 use Rattle.sheets.specs.declared.line.Line.{Line}
 use Rattle.decks.specs.Listing.{lineBytes, linesBytes}
 

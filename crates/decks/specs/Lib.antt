@@ -1,2 +1,4 @@
--- The bytes of the deck's answer.
+-- The deck's entries, what a deck comes to, and the bytes of its answer.
+pub mod Answer
+pub mod Desk
 pub mod Listing

@@ -1,6 +1,6 @@
 //! What is asked of a job. A question changes nothing.
 ghost use mathlib.Core.Path.{_≡_};
-ghost use Prim.Native.Nat.{_<_};
+ghost use Prim.Native.Nat.{_<_, _≤_};
 ghost use lib.ListN.{length, take};
 ghost use Rattle.std.specs.Vec.{made};
 ghost use Rattle.records.specs.Levels.{listed};
@@ -22,6 +22,14 @@ use sheets::sheet::sheet_of;
 const MOST_SHEAR: u32 = 1_000_000;
 
 impl<E: Edition> Job<E> {
+    /// How many levels the building has.
+    pub fn level_count(&self) -> usize
+        ensures count { λ r. ⌜ r ≡ length (listed (now (self .entry) .building .levels)) ⌝ }
+        ensures most { λ r. ⌜ r ≤ 64 ⌝ }
+    {
+        self.building.levels.len()
+    }
+
     /// What the edition answers for the job's figures. It refuses a job with no level, then the lowest absent setting that the
     /// edition needs, then a base shear above what a sheet shows.
     pub fn answers(&self) -> Result<Answers, Fault>

@@ -1,6 +1,6 @@
 -- The first absent number of a set, found by going through the numbers in order.
 use mathlib.Core.Path.{_≡_, refl, sym, ap, subst, _∙_}
-use mathlib.Core.Bool.{true, false, not, _&&_}
+use mathlib.Core.Bool.{true, false, not}
 use mathlib.Core.Logic.{⊎-elim}
 use Prim.Native.Nat.{ℕ, zero, suc, _+_, _≤_, _<_}
 use native.Mathlib.Nat.{eq-or-lt-of-le}
@@ -12,7 +12,7 @@ use Rattle.std.specs.declared.option.Option.the-variants.{None, Some}
 use Rattle.std.proofs.shelf.Tests.{cond-true, cond-false, cases-bool, and-parts, and-from, eq-eqb, eqb-true, false≢true}
 use Rattle.settings.specs.declared.record.Settings.{Settings}
 use Rattle.settings.specs.Figures.{entry}
-use Rattle.settings.specs.Sets.{bit, Member, Present, Least, Lowest, lacking, firstAbsent, lowestAbsent}
+use Rattle.settings.specs.Sets.{bit, Member, Least, Lowest, lacking, firstAbsent, lowestAbsent}
 
 module _ (s : Settings) (m : ℕ) where
   not-lacking : (n : ℕ) → (Member m n → isSome (entry s n) ≡ true) → lacking s m n ≡ false

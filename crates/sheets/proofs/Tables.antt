@@ -1,14 +1,12 @@
 -- What a table's type says of its levels.
-use mathlib.Core.List.{List}
 use Prim.Native.Nat.{_≤_}
 use native.Mathlib.Omega.{arith}
 use lib.ListN.{length, getD}
 use Rattle.std.proofs.shelf.Elements.{all-from-getD}
 use Rattle.std.proofs.shelf.Ways.{tells}
-use Rattle.tables.specs.Keys.{Rising, Each}
 use Rattle.records.specs.declared.level.Level.{Level}
 use Rattle.records.specs.declared.levels.Levels.{Levels}
-use Rattle.records.specs.Level.{heightOf, Fit}
+use Rattle.records.specs.Level.{Fit}
 use Rattle.records.specs.Levels.{listed}
 use Rattle.sheets.specs.Bearings.{Ranged, Standing, blank}
 

@@ -35,7 +35,7 @@ use Rattle.sheets.specs.Laws.{Sound}
 use Rattle.sheets.proofs.Sums.{summed-same, summed-counting}
 use Rattle.sheets.proofs.Bounds.{uncertain-here, uncertain-below}
 use Rattle.sheets.proofs.Levels.{length-bearings, bearing-at, levels-fall}
-use Rattle.sheets.proofs.Sharing.{forces-whole, forces-upto}
+use Rattle.sheets.proofs.Sharing.{forces-whole}
 
 pub ready-of : (A : ℕ) (p : Portion) (bs : List Bearing) → p ≡ portion A bs → A ≤ 1000000 → Falling bs → Ready p bs
 ready-of A p bs e h f =

@@ -1,6 +1,5 @@
 -- The word, and then four fields.
 use mathlib.Core.Path.{subst}
-use mathlib.Core.List.{List}
 use Prim.Native.Nat.{ℕ}
 use native.Mathlib.Omega.{arith}
 use Rattle.bytes.specs.Wrote.{Puts, field}

@@ -1,13 +1,10 @@
 -- The bearers of the table's levels are in order and in range, and the lines that are written keep the laws.
-use mathlib.Core.Path.{_≡_, refl, sym, ap, _∙_, subst}
+use mathlib.Core.Path.{refl, sym, ap, _∙_, subst}
 use mathlib.Core.List.{List}
 use Prim.Native.Nat.{_-_}
 use native.Mathlib.Omega.{arith}
-use lib.ListN.{length, take}
+use lib.ListN.{length}
 use Rattle.records.specs.Levels.{listed}
-use Rattle.records.specs.declared.level.Level.{Level}
-use Rattle.records.specs.declared.levels.Levels.{Levels}
-use Rattle.editions.specs.declared.edition.Answers.{Answers}
 use Rattle.sheets.specs.declared.bearing.Bearing.{Bearing}
 use Rattle.sheets.specs.Bearings.{Standing, Falling, bearings}
 use Rattle.sheets.specs.Sheet.{answer, after, refused}
