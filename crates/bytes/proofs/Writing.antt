@@ -106,6 +106,13 @@ pub puts-none : (xs : List ℕ) (at : ℕ) → Puts xs at [] xs at
 unfolding wrote
 puts-none xs at = record { bytes = sym (ap (λ (n : ℕ). take at xs ++ drop n xs) (add-zero at) ∙ take-append-drop at xs); ends = omega arith }
 
--- what was written stands in front, and the rest of the buffer keeps its contents
-pub puts-length : (xs : List ℕ) (at : ℕ) (ys os : List ℕ) (i : ℕ) → Puts xs at ys os i → i ≤ length xs → length os ≡ length xs
-puts-length xs at ys os i u h = ap length (u .bytes) ∙ length-wrote xs at ys (omega (arith, u .ends))
+-- what is written at the front of a buffer lies within it, and the rest of the buffer keeps its contents
+pub puts-within : (xs ys os : List ℕ) (i : ℕ) → Puts xs 0 ys os i → length os ≡ length xs → i ≤ length xs
+unfolding wrote
+puts-within xs ys os i u long = omega (arith, u .ends, ap length (u .bytes), length-append ys (drop (0 + length ys) xs), length-drop (0 + length ys) xs)
+
+pub puts-kept : (xs ys os : List ℕ) (i : ℕ) → Puts xs 0 ys os i → drop i os ≡ drop i xs
+unfolding wrote
+puts-kept xs ys os i u =
+    let e : length ys ≡ i = omega (arith, u .ends) in
+    ap (drop i) (u .bytes) ∙ drop-at ys (drop (0 + length ys) xs) i e ∙ ap (λ (n : ℕ). drop n xs) (sym (u .ends))

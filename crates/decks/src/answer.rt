@@ -1,6 +1,7 @@
 //! The answer to a deck.
+ghost use mathlib.Core.Path.{_≡_};
 ghost use Prim.Native.Nat.{_≤_};
-ghost use lib.ListN.{length};
+ghost use lib.ListN.{length, drop};
 ghost use Rattle.decks.specs.Answer.{Under, Comes, Listed, Answered};
 use crate::desk::Desk;
 use crate::desk::DeskTakes;
@@ -73,7 +74,9 @@ fn list(deck: &[u8], out: &mut [u8]) -> Result<usize, Refusal>
 /// Answers a deck: writes its listing, or the line of its first fault, at the front of `out`, and leaves the rest of `out` as it
 /// was. A buffer of less than 4,096 bytes is refused, and nothing is written.
 pub fn answer(deck: &[u8], out: &mut [u8]) -> Reply
-    ensures { λ r. ⌜ Answered (now (deck .entry)) (now (out .entry)) (now (out .exit)) r ⌝ }
+    ensures answered { λ r. ⌜ Answered (now (deck .entry)) (now (out .entry)) (now (out .exit)) r ⌝ }
+    ensures bound { λ r. ⌜ r .written ≤ length (now (out .entry)) ⌝ }
+    ensures kept { λ r. ⌜ drop (r .written) (now (out .exit)) ≡ drop (r .written) (now (out .entry)) ⌝ }
 {
     if out.len() < ROOM {
         let fault = Fault::new(Layer::Deck, Cause::ListShort, ROOM as u32);
