@@ -26,7 +26,7 @@ pub fn cut_at(text: &[u8], mark: u8) -> Option<(&[u8], &[u8])>
 }
 
 /// How often `mark` stands in `text`.
-pub fn count(text: &[u8], mark: u8) -> usize
+pub(crate) fn count(text: &[u8], mark: u8) -> usize
     ensures { λ r. ⌜ r ≡ length (others mark (now (text .entry))) ⌝ }
 {
     let mut n: usize = 0;

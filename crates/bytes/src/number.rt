@@ -26,7 +26,7 @@ pub fn read_number(word: &[u8]) -> Option<u32>
 }
 
 /// Writes the decimal digits of `n` into `out` from `at` on, and answers where they end.
-pub fn put_number(out: &mut [u8], at: usize, n: u64) -> usize
+pub(crate) fn put_number(out: &mut [u8], at: usize, n: u64) -> usize
     requires { ⌜ at + length (decimal n) ≤ length (now out) ⌝ }
     ensures { λ r. ⌜ Puts (now (out .entry)) at (decimal n) (now (out .exit)) r ⌝ }
 {

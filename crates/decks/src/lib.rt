@@ -1,5 +1,5 @@
 //! The deck's answer: a building's figures in, its listing or its fault out, as bytes.
 pub mod answer;
 pub mod desk;
-pub mod listing;
+mod listing;
 pub mod reply;

@@ -46,7 +46,7 @@ fn put_base(out: &mut [u8], at: usize, totals: Totals) -> usize
 }
 
 /// Writes a sheet's listing at the front of the buffer.
-pub fn put_listing(out: &mut [u8], totals: Totals, lines: &[Line]) -> usize
+pub(crate) fn put_listing(out: &mut [u8], totals: Totals, lines: &[Line]) -> usize
     requires few { ⌜ length (now lines) ≤ 64 ⌝ }
     requires room { ⌜ 4096 ≤ length (now out) ⌝ }
     ensures { λ r. ⌜ Puts (now (out .entry)) 0 (listingBytes totals (now (lines .entry))) (now (out .exit)) r ⌝ }
@@ -57,7 +57,7 @@ pub fn put_listing(out: &mut [u8], totals: Totals, lines: &[Line]) -> usize
 }
 
 /// Writes a refusal's line at the front of the buffer: cause, place, layer and line.
-pub fn put_fault(out: &mut [u8], refusal: Refusal) -> usize
+pub(crate) fn put_fault(out: &mut [u8], refusal: Refusal) -> usize
     requires { ⌜ 4096 ≤ length (now out) ⌝ }
     ensures { λ r. ⌜ Puts (now (out .entry)) 0 (faultBytes refusal) (now (out .exit)) r ⌝ }
 {

@@ -46,7 +46,7 @@ impl<R: Copy, const N: usize> Rows<R, N> {
     }
 
     /// The record at a place.
-    pub fn at(&self, i: usize) -> R
+    pub(crate) fn at(&self, i: usize) -> R
         requires whole { ⌜ Whole (now self) ⌝ }
         requires within { ⌜ i < length (rows (now self)) ⌝ }
         ensures { λ r. ⌜ ((d : R) → r ≡ getD (rows (now (self .entry))) i d) ⌝ }
@@ -55,7 +55,7 @@ impl<R: Copy, const N: usize> Rows<R, N> {
     }
 
     /// The table with `x` in the place of the record at `i`.
-    pub fn put_at(self, i: usize, x: R) -> Self
+    pub(crate) fn put_at(self, i: usize, x: R) -> Self
         requires whole { ⌜ Whole self ⌝ }
         requires within { ⌜ i < length (rows self) ⌝ }
         ensures records { λ r. ⌜ rows r ≡ set (rows self) i x ⌝ }
@@ -70,7 +70,7 @@ impl<R: Copy, const N: usize> Rows<R, N> {
     }
 
     /// The table with `x` at `place`, and the records from there on one place further.
-    pub fn insert_at(self, place: usize, x: R) -> Self
+    pub(crate) fn insert_at(self, place: usize, x: R) -> Self
         requires whole { ⌜ Whole self ⌝ }
         requires room { ⌜ length (rows self) < N ⌝ }
         requires within { ⌜ place ≤ length (rows self) ⌝ }
@@ -92,7 +92,7 @@ impl<R: Copy, const N: usize> Rows<R, N> {
     }
 
     /// The table without the record at `place`.
-    pub fn remove_at(self, place: usize) -> Self
+    pub(crate) fn remove_at(self, place: usize) -> Self
         requires whole { ⌜ Whole self ⌝ }
         requires within { ⌜ place < length (rows self) ⌝ }
         ensures records { λ r. ⌜ rows r ≡ removed (rows self) place ⌝ }

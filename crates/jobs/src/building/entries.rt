@@ -13,7 +13,7 @@ use settings::record::Settings;
 
 impl Building {
     /// No figure.
-    pub fn new() -> Building
+    pub(crate) fn new() -> Building
         ensures settings { λ r. ⌜ ((n : ℕ) → entry (r .settings) n ≡ None) ⌝ }
         ensures levels { λ r. ⌜ listed (r .levels) ≡ [] ⌝ }
     {
@@ -24,7 +24,7 @@ impl Building {
     }
 
     /// Gives the setting with that number a figure.
-    pub fn set(&mut self, number: u32, value: u32) -> Result<(), Fault>
+    pub(crate) fn set(&mut self, number: u32, value: u32) -> Result<(), Fault>
         ensures { λ r. ⌜ IsSet (now (self .entry)) (now (self .exit)) number value r ⌝ }
     {
         let mut settings = self.settings;
@@ -37,7 +37,12 @@ impl Building {
     }
 
     /// Enters a level, or another weight and gravity load for the level at that height.
-    pub fn enter_level(&mut self, height: u32, weight: u32, gravity: u32) -> Result<(), Fault>
+    pub(crate) fn enter_level(
+        &mut self,
+        height: u32,
+        weight: u32,
+        gravity: u32,
+    ) -> Result<(), Fault>
         ensures { λ r. ⌜ LevelEntered (now (self .entry)) (now (self .exit)) height weight gravity r ⌝ }
     {
         let mut levels = self.levels;
@@ -47,7 +52,7 @@ impl Building {
     }
 
     /// Drops the level at a height.
-    pub fn drop_level(&mut self, height: u32) -> Result<(), Fault>
+    pub(crate) fn drop_level(&mut self, height: u32) -> Result<(), Fault>
         ensures { λ r. ⌜ LevelDropped (now (self .entry)) (now (self .exit)) height r ⌝ }
     {
         let mut levels = self.levels;
