@@ -47,10 +47,6 @@ pub smaller-left : (p q : Ratio) → AtMost (smaller p q) p
 smaller-left p q =
     cond-both (leb (p .num * q .den) (q .num * p .den)) p q (λ x. AtMost x p) (λ e. omega arith) (λ e. omega (arith, leb-false _ _ e))
 
-pub smaller-right : (p q : Ratio) → AtMost (smaller p q) q
-smaller-right p q =
-    cond-both (leb (p .num * q .den) (q .num * p .den)) p q (λ x. AtMost x q) (λ e. leb-true _ _ e) (λ e. omega arith)
-
 pub larger-left : (p q : Ratio) → AtMost p (larger p q)
 larger-left p q =
     cond-both (leb (p .num * q .den) (q .num * p .den)) q p (λ x. AtMost p x) (λ e. leb-true _ _ e) (λ e. omega arith)
@@ -72,7 +68,3 @@ pos-of a b (suc c) d h p q = omega arith
 
 pub pos-above : (p q : Ratio) → AtMost p q → 0 < p .num → 0 < q .den → 0 < q .num
 pos-above p q h a b = pos-of (p .num) (q .den) (q .num) (p .den) h a b
-
--- one number rounds a fraction up
-pub ceiling-one : (p : Ratio) (v u : ℕ) → Ceiling p v → Ceiling p u → v ≡ u
-ceiling-one p v u c d = omega (arith, c .least u (d .above), d .least v (c .above))

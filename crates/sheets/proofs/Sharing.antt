@@ -11,7 +11,7 @@ use Rattle.std.proofs.shelf.Lists.{take-map, take-all, getD-set-same, getD-set-
 use Rattle.std.proofs.shelf.Sums.{sumBy-more, sumBy-take-le, sum-map}
 use Rattle.std.proofs.shelf.Bits.{div-below}
 use Rattle.sharing.specs.Sharing.{Shared}
-use Rattle.sharing.proofs.Laws.{floors, ceilings}
+use Rattle.sharing.proofs.Laws.{floors}
 use Rattle.sheets.specs.declared.bearing.Bearing.{Bearing}
 use Rattle.sheets.specs.Summed.{summed}
 use Rattle.sheets.specs.Bearings.{ground, stake}
@@ -31,15 +31,10 @@ pub due-step : (A : ℕ) (bs : List Bearing) (k : ℕ) → k < length bs → due
 unfolding due
 due-step A bs k h = ap (λ (n : ℕ). A * n / sumBy stake bs) (sumBy-more stake bs k ground h)
 
--- no level gets less than the whole part of its due, nor more than its due rounded up
+-- no level gets less than the whole part of its due
 pub share-least : (A : ℕ) (bs : List Bearing) (k : ℕ) → 0 < sumBy stake bs → k < length bs → A * stake (getD bs k ground) / sumBy stake bs + due A bs k ≤ due A bs (k + 1)
 unfolding due
 share-least A bs k pos h = omega (arith, due-step A bs k h, floors A (sumBy stake (take k bs)) (stake (getD bs k ground)) (sumBy stake bs) pos)
-
-pub share-most : (A : ℕ) (bs : List Bearing) (k : ℕ) → 0 < sumBy stake bs → k < length bs →
-    due A bs (k + 1) ≤ due A bs k + (A * stake (getD bs k ground) + (sumBy stake bs - 1)) / sumBy stake bs
-unfolding due
-share-most A bs k pos h = omega (arith, due-step A bs k h, ceilings A (sumBy stake (take k bs)) (stake (getD bs k ground)) (sumBy stake bs) pos)
 
 pub due-le : (A : ℕ) (bs : List Bearing) (k : ℕ) → 0 < sumBy stake bs → due A bs k ≤ A
 unfolding due

@@ -1,3 +1,4 @@
+-- Each turn puts one level more in its place; a level of the table is not above the roof.
 use mathlib.Core.Path.{refl, _∙_}
 use Prim.Native.Nat.{_-_, _<_}
 use lib.ListN.{length}

@@ -1,3 +1,4 @@
+-- The bearers so far are the first ones from the roof down.
 use mathlib.Core.Path.{_≡_}
 use lib.ListN.{take, length}
 use Rattle.sheets.specs.Bearings.{bearings}

@@ -1,3 +1,4 @@
+-- Each turn adds one level more, and no sum overflows.
 use mathlib.Core.Path.{_∙_, ap}
 use Prim.Native.Nat.{_<_}
 use native.Mathlib.Omega.{arith}

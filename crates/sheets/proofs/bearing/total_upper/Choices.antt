@@ -1,3 +1,4 @@
+-- The sum over the bearers so far, each at most the limit of a stake.
 use mathlib.Core.Path.{_≡_}
 use Prim.Native.Nat.{_*_, _≤_}
 use lib.ListN.{take}

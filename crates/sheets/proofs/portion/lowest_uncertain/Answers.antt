@@ -1,3 +1,4 @@
+-- The scan goes up from the lowest level and stops at the first that is uncertain.
 use mathlib.Core.Path.{sym, _∙_}
 use Prim.Native.Nat.{_-_}
 use native.Mathlib.Omega.{arith}

@@ -1,3 +1,4 @@
+-- No level below the scan is uncertain.
 use mathlib.Core.Path.{_≡_}
 use lib.ListN.{length}
 use Rattle.sheets.specs.Shares.{lowestUncertain}

@@ -1,3 +1,4 @@
+-- The shares, and the top force on the first of them.
 use mathlib.Core.Path.{ap, sym, _∙_}
 use native.Mathlib.Omega.{arith}
 use Rattle.std.proofs.shelf.Lists.{length-set}

@@ -1,3 +1,4 @@
+-- The refusals in their order, and else the lines and the totals.
 use mathlib.Core.Path.{sym, ap, _∙_}
 use mathlib.Core.List.{List, _++_}
 use Prim.Native.Nat.{ℕ, _-_}

@@ -1,3 +1,4 @@
+-- Each turn takes the moment down one story, and no sum overflows, since the forces add up to V at most.
 use mathlib.Core.Path.{_≡_, refl, ap}
 use Prim.Native.Nat.{ℕ, _-_, _*_}
 use native.Mathlib.Omega.{arith}

@@ -1,3 +1,4 @@
+-- The shear and the moment at the level above, and the lines written so far.
 use mathlib.Core.Path.{_≡_}
 use mathlib.Core.List.{_++_, map}
 use Prim.Native.Nat.{_-_}

@@ -1,3 +1,4 @@
+-- A place among the records is a place among the cells.
 use native.Mathlib.Omega.{arith}
 use Rattle.tables.proofs.Lists.{taken}
 use Rattle.tables.proofs.rows.Rows.at.Needs as need

@@ -1,3 +1,4 @@
+-- What is carried would stand at the turn's place, as `x` would at the first.
 use mathlib.Core.Path.{_≡_}
 use lib.ListN.{length}
 use Rattle.std.specs.Holes.{inserted}

@@ -1,3 +1,4 @@
+-- Without the record at the turn's place the cells are what they were without the one at the first.
 use mathlib.Core.Path.{_≡_}
 use lib.ListN.{length}
 use Rattle.std.specs.Holes.{removed}

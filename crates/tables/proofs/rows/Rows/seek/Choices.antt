@@ -1,3 +1,4 @@
+-- The keys passed are below `k`.
 use Prim.Native.Nat.{ℕ, _<_}
 use lib.ListN.{getD}
 use Rattle.tables.specs.Rows.{rows}
