@@ -1,4 +1,5 @@
 //! A job's records and the tables that keep them: levels by height, perhaps with an analysis, and walls by position.
+#![tactic(auto)]
 pub mod analysis;
 pub mod level;
 pub mod levels;

@@ -1,3 +1,4 @@
 //! Tables of records in order of a key, for every kind of record.
+#![tactic(auto)]
 pub mod keyed;
 pub mod rows;

@@ -1,4 +1,5 @@
 //! Worked figures and tables of cases, run against the crates that they test.
+#![tactic(auto)]
 #[cfg(test)]
 mod bounds;
 #[cfg(test)]

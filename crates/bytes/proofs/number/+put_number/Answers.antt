@@ -5,21 +5,21 @@ use Rattle.bytes.proofs.Writing.{digit_one, digit_more, length_more}
 use Rattle.bytes.proofs.number.+put_number.Goals as goal
 use Rattle.bytes.proofs.number.+put_number.Goals.{then-n-lt10, else-n-lt10}
 
-pub put-number-last-requires : goal.put-number-last-requires
-put-number-last-requires t c = let l = length_more c.args.n c.if-n-lt10.false c.ranges.n.fits in (search rules, omega arith)
+pub put_number-last-requires : goal.put_number-last-requires
+put_number-last-requires t c = let l = length_more c.args.n c.if-n-lt10.false c.ranges.n.fits in (search rules, omega arith)
 
 pub bounds-out-last : goal.bounds-out-last
 bounds-out-last t c =
     elim c.if-n-lt10.branch [
       | then-n-lt10 w ↦ let l = ap length (decimal_digit c.args.n w.if-n-lt10.true) in omega (arith, l, w.last-is)
-      | else-n-lt10 w ↦ let l = length_more c.args.n w.if-n-lt10.false c.ranges.n.fits in omega (arith, l, w.last-is, w.put-number-last.ensures.ends)
+      | else-n-lt10 w ↦ let l = length_more c.args.n w.if-n-lt10.false c.ranges.n.fits in omega (arith, l, w.last-is, w.put_number-last.ensures.ends)
     ]
 
-pub overflow-add-result : goal.overflow-add-result
-overflow-add-result t c =
+pub overflow_add-result : goal.overflow_add-result
+overflow_add-result t c =
     let k : c.if-n-lt10.last < length c.if-n-lt10.out = elim c.if-n-lt10.branch [
       | then-n-lt10 w ↦ let l = ap length (decimal_digit c.args.n w.if-n-lt10.true) in omega (arith, l, w.last-is)
-      | else-n-lt10 w ↦ let l = length_more c.args.n w.if-n-lt10.false c.ranges.n.fits in omega (arith, l, w.last-is, w.put-number-last.ensures.ends)
+      | else-n-lt10 w ↦ let l = length_more c.args.n w.if-n-lt10.false c.ranges.n.fits in omega (arith, l, w.last-is, w.put_number-last.ensures.ends)
     ] in
     search rules
 
@@ -37,7 +37,7 @@ returns t c =
       | else-n-lt10 w ↦
           let l = length_more n w.if-n-lt10.false c.ranges.n.fits in
           record {
-            bytes = ap (λ (o : List ℕ). P o c.if-n-lt10.last) (w.out-is ∙ w.put-number-last.ensures.bytes) ∙ ap (P _) (w.last-is ∙ w.put-number-last.ensures.ends) ∙ digit_more xs at n w.if-n-lt10.false c.ranges.n.fits c.requires;
-            ends = omega (arith, l, w.last-is, w.put-number-last.ensures.ends);
+            bytes = ap (λ (o : List ℕ). P o c.if-n-lt10.last) (w.out-is ∙ w.put_number-last.ensures.bytes) ∙ ap (P _) (w.last-is ∙ w.put_number-last.ensures.ends) ∙ digit_more xs at n w.if-n-lt10.false c.ranges.n.fits c.requires;
+            ends = omega (arith, l, w.last-is, w.put_number-last.ensures.ends);
           }
     ]

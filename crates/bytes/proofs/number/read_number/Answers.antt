@@ -15,11 +15,11 @@ returns-then-b-lt48 c =
     let v = sym (in_range w c.loop-b.invariant.3 c.loop-b.invariant.2 ∙ c.loop-b.invariant.0 ∙ stop w i c.loop-b.n c.loop-b-test.true d) in
     record { value = v; reads = number_reads w None v }
 
-pub overflow-mul-n : goal.overflow-mul-n
-overflow-mul-n c = let i : c.loop-b.b-index < 9 = omega arith in let s = small c.loop-b.b-index c.loop-b.n i c.loop-b.invariant.1 in search rules
+pub overflow_mul-n : goal.overflow_mul-n
+overflow_mul-n c = let i : c.loop-b.b-index < 9 = omega arith in let s = small c.loop-b.b-index c.loop-b.n i c.loop-b.invariant.1 in search rules
 
-pub overflow-add-n : goal.overflow-add-n
-overflow-add-n c = let i : c.loop-b.b-index < 9 = omega arith in let s = small c.loop-b.b-index c.loop-b.n i c.loop-b.invariant.1 in search rules
+pub overflow_add-n : goal.overflow_add-n
+overflow_add-n c = let i : c.loop-b.b-index < 9 = omega arith in let s = small c.loop-b.b-index c.loop-b.n i c.loop-b.invariant.1 in search rules
 
 pub loop-b-preserved : goal.loop-b-preserved
 loop-b-preserved c =

@@ -4,16 +4,16 @@ use Rattle.bytes.specs.Wrote.{wrote}
 use Rattle.bytes.proofs.Writing.{length_field, wrote_field}
 use Rattle.bytes.proofs.put.put_field.Goals as goal
 
-pub put-number-last-requires : goal.put-number-last-requires
-put-number-last-requires c = omega (arith, length_field c.args.n c.args.mark)
+pub put_number-last-requires : goal.put_number-last-requires
+put_number-last-requires c = omega (arith, length_field c.args.n c.args.mark)
 
 pub bounds-out-last : goal.bounds-out-last
 bounds-out-last c = omega (arith, length_field c.args.n c.args.mark)
 
-pub overflow-add-result : goal.overflow-add-result
-overflow-add-result c =
+pub overflow_add-result : goal.overflow_add-result
+overflow_add-result c =
     let s = length_field c.args.n c.args.mark in
-    let k : c.put-number-last.result < length c.args.out.now = omega arith in
+    let k : c.put_number-last.result < length c.args.out.now = omega arith in
     search rules
 
 pub returns : goal.returns
@@ -21,8 +21,8 @@ returns c =
     let s = length_field c.args.n c.args.mark in
     let h : c.args.at + length (decimal c.args.n) < length c.args.out.now = omega arith in
     record {
-      bytes = ap (λ (o : List ℕ). set o c.put-number-last.result c.args.mark) c.put-number-last.ensures.bytes
-          ∙ ap (λ (i : ℕ). set (wrote c.args.out.now c.args.at (decimal c.args.n)) i c.args.mark) c.put-number-last.ensures.ends
+      bytes = ap (λ (o : List ℕ). set o c.put_number-last.result c.args.mark) c.put_number-last.ensures.bytes
+          ∙ ap (λ (i : ℕ). set (wrote c.args.out.now c.args.at (decimal c.args.n)) i c.args.mark) c.put_number-last.ensures.ends
           ∙ wrote_field c.args.out.now c.args.at c.args.n c.args.mark h;
       ends = omega arith;
     }

@@ -3,8 +3,8 @@ use Rattle.std.proofs.Common.{arith}
 use Rattle.bytes.proofs.Writing.{field_32}
 use Rattle.bytes.proofs.put.put_short.Goals as goal
 
-pub put-field-requires : goal.put-field-requires
-put-field-requires c = omega (arith, field_32 c.args.n c.args.mark c.ranges.n.fits)
+pub put_field-requires : goal.put_field-requires
+put_field-requires c = omega (arith, field_32 c.args.n c.args.mark c.ranges.n.fits)
 
 pub returns : goal.returns
-returns c = record { puts = c.put-field.ensures; bound = omega (arith, c.put-field.ensures.ends, field_32 c.args.n c.args.mark c.ranges.n.fits) }
+returns c = record { puts = c.put_field.ensures; bound = omega (arith, c.put_field.ensures.ends, field_32 c.args.n c.args.mark c.ranges.n.fits) }

@@ -16,6 +16,6 @@ pub returns-in-Err : goal.returns-in-Err
 returns-in-Err c =
     record {
       answered = search rules;
-      bound = omega (arith, puts_within _ _ _ _ c.put-fault.ensures (omega arith));
-      kept = puts_kept _ _ _ _ c.put-fault.ensures ∙ ap (drop c.put-fault.result) c.in-Err.ensures.1;
+      bound = omega (arith, puts_within _ _ _ _ c.put_fault.ensures (omega arith));
+      kept = puts_kept _ _ _ _ c.put_fault.ensures ∙ ap (drop c.put_fault.result) c.in-Err.ensures.1;
     }

@@ -7,5 +7,5 @@ use Rattle.decks.proofs.listing.put_base.Goals as goal
 pub returns : goal.returns
 unfolding base_bytes
 returns c =
-    puts_more _ _ _ _ _ _ _ _ c.put-bytes-at.ensures
-    (puts_more _ _ _ _ _ _ _ _ c.put-short-at.ensures.puts c.put-long.ensures.puts (omega arith)) (omega (arith, c.put-bytes-at.ensures.ends))
+    puts_more _ _ _ _ _ _ _ _ c.put_bytes-at.ensures
+    (puts_more _ _ _ _ _ _ _ _ c.put_short-at.ensures.puts c.put_long.ensures.puts (omega arith)) (omega (arith, c.put_bytes-at.ensures.ends))

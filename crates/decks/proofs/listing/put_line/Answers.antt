@@ -8,8 +8,8 @@ pub returns : goal.returns
 unfolding line_bytes
 returns c = record {
   puts =
-      puts_more _ _ _ _ _ _ _ _ c.put-short-at.ensures.puts
-      (puts_more _ _ _ _ _ _ _ _ c.put-short-at-2.ensures.puts
-      (puts_more _ _ _ _ _ _ _ _ c.put-short-at-3.ensures.puts c.put-long.ensures.puts (omega arith)) (omega arith)) (omega arith);
+      puts_more _ _ _ _ _ _ _ _ c.put_short-at.ensures.puts
+      (puts_more _ _ _ _ _ _ _ _ c.put_short-at-2.ensures.puts
+      (puts_more _ _ _ _ _ _ _ _ c.put_short-at-3.ensures.puts c.put_long.ensures.puts (omega arith)) (omega arith)) (omega arith);
   bound = omega arith;
 }

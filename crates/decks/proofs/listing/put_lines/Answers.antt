@@ -16,8 +16,8 @@ pub loop-line-preserved : goal.loop-line-preserved
 loop-line-preserved c =
     let ls = c.args.lines.now in
     let i = c.loop-line.line-index in
-    let more = puts_more _ _ _ _ _ _ _ _ c.loop-line.invariant.0 c.put-line-end.ensures.puts (omega arith) in
-    (subst (λ (t : List ℕ). Puts c.args.out.now c.args.at t c.put-line-end.new.out c.put-line-end.result) (sym (lines_more ls i no_line c.loop-line-test.true)) more, omega arith)
+    let more = puts_more _ _ _ _ _ _ _ _ c.loop-line.invariant.0 c.put_line-end.ensures.puts (omega arith) in
+    (subst (λ (t : List ℕ). Puts c.args.out.now c.args.at t c.put_line-end.new.out c.put_line-end.result) (sym (lines_more ls i no_line c.loop-line-test.true)) more, omega arith)
 
 pub returns : goal.returns
 returns c =

@@ -7,5 +7,5 @@ use Rattle.decks.proofs.listing.put_listing.Goals as goal
 pub returns : goal.returns
 unfolding listing
 returns c =
-    puts_more _ _ _ _ _ _ _ _ c.put-bytes-at.ensures
-    (puts_more _ _ _ _ _ _ _ _ c.put-lines-at.ensures.puts c.put-base.ensures (omega arith)) (omega (arith, c.put-bytes-at.ensures.ends))
+    puts_more _ _ _ _ _ _ _ _ c.put_bytes-at.ensures
+    (puts_more _ _ _ _ _ _ _ _ c.put_lines-at.ensures.puts c.put_base.ensures (omega arith)) (omega (arith, c.put_bytes-at.ensures.ends))

@@ -11,9 +11,9 @@ use Rattle.grammar.proofs.reading.read_entries.Goals as goal
 went : {S : Type 0} (takes : S → Entry → Option Fault → S → Type 0) (bs : List ℕ) (s t : S) (o p : Option (Bor (List ℕ))) → o ≡ p → Steps takes bs s (Ok o) t → Steps takes bs s (Ok p) t
 went takes bs s t o p e h = subst (λ (x : Option (Bor (List ℕ))). Steps takes bs s (Ok x) t) e h
 
-pub returns-in-default : goal.returns-in-default
-returns-in-default g c =
-    let s = went g.T.Takes.takes c.lines.rest.now c.lines.taker c.step.new.taker c.in-Ok.next _ c.in-default.is c.in-Ok.ensures in
+pub returns-in_default : goal.returns-in_default
+returns-in_default g c =
+    let s = went g.T.Takes.takes c.lines.rest.now c.lines.taker c.step.new.taker c.in-Ok.next _ c.in_default.is c.in-Ok.ensures in
     c.lines.invariant.1 [] (Ok c.lines.line) c.step.new.taker (inl (s.0, refl, s.1))
 
 pub returns-in-Err : goal.returns-in-Err

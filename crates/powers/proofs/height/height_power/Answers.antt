@@ -7,9 +7,9 @@ use Rattle.powers.specs.Powers.{base, Small, after, height_power}
 use Rattle.powers.proofs.Digits.{Sound, ratio_small, after_small, power_sound, sound_small, after_more, after_all}
 use Rattle.powers.proofs.height.height_power.Goals as goal
 
-pub with-digit-progress-requires : goal.with-digit-progress-requires
-with-digit-progress-requires c =
-    let s = subst Small (sym c.of-ratio-ratio.ensures) (ratio_small c.args.roof c.args.height (omega arith) (omega arith)) in
+pub with_digit-progress-requires : goal.with_digit-progress-requires
+with_digit-progress-requires c =
+    let s = subst Small (sym c.of_ratio-ratio.ensures) (ratio_small c.args.roof c.args.height (omega arith) (omega arith)) in
     (s, s)
 
 pub loop-place-init : goal.loop-place-init
@@ -23,8 +23,8 @@ next-progress-requires c =
 
 pub loop-place-preserved : goal.loop-place-preserved
 loop-place-preserved c =
-    after_more base c.args.roof c.args.height c.args.e c.loop-place.place c.has-digit-in-loop-place.result c.loop-place.progress c.next-progress.result
-    (omega arith) c.loop-place.invariant c.has-digit-in-loop-place.ensures c.next-progress.ensures
+    after_more base c.args.roof c.args.height c.args.e c.loop-place.place c.has_digit-in-loop-place.result c.loop-place.progress c.next-progress.result
+    (omega arith) c.loop-place.invariant c.has_digit-in-loop-place.ensures c.next-progress.ensures
 
 pub returns : goal.returns
 returns c =

@@ -6,10 +6,10 @@ use Rattle.settings.specs.Names.{name_of}
 use Rattle.settings.proofs.Called.{unnamed}
 use Rattle.settings.proofs.names.named.Goals as goal
 
-pub returns-in-default : goal.returns-in-default
-returns-in-default c =
+pub returns-in_default : goal.returns-in_default
+returns-in_default c =
     let w = c.args.name.now in
-    let r = c.in-default in
+    let r = c.in_default in
     let none : (s : Setting) → w ≡ name_of s → ⊥ = λ s.
     elim s as (λ s. w ≡ name_of s → ⊥) [
       | R ↦ r.not-R

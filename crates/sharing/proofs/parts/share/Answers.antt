@@ -9,13 +9,13 @@ use Rattle.sharing.proofs.parts.share.Goals as goal
 pub loop-i-init : goal.loop-i-init
 loop-i-init g c = sofar_none _ _ _ _ c.requires.some
 
-pub overflow-mul-due : goal.overflow-mul-due
-overflow-mul-due g c =
+pub overflow_mul-due : goal.overflow_mul-due
+overflow_mul-due g c =
     let s = stake_within g.B.Bearer.stake _ _ _ _ _ c.requires.within c.loop-i-test.true c.index-bearers-i.is c.stake.ensures in
     omega (arith, mul-le-mul {m₁ = c.stake.result} {n₂ = 1000000} {m₂ = limit} c.requires.amount (omega (arith, g.met.B.Bearer.bounded)))
 
-pub overflow-add-due : goal.overflow-add-due
-overflow-add-due g c =
+pub overflow_add-due : goal.overflow_add-due
+overflow_add-due g c =
     let s = stake_within g.B.Bearer.stake _ _ _ _ _ c.requires.within c.loop-i-test.true c.index-bearers-i.is c.stake.ensures in
     let t = total_le g.B.Bearer.stake _ _ c.requires.within g.met.B.Bearer.bounded c.requires.few in
     omega (
@@ -25,8 +25,8 @@ overflow-add-due g c =
       c.requires.total,
     )
 
-pub overflow-cast-shares : goal.overflow-cast-shares
-overflow-cast-shares g c =
+pub overflow_cast-shares : goal.overflow_cast-shares
+overflow_cast-shares g c =
     let more = stakes_more g.B.Bearer.stake _ _ _ _ c.loop-i-test.true c.index-bearers-i.is c.stake.ensures in
     omega (
       arith,

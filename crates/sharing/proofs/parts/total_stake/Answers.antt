@@ -3,8 +3,8 @@ use Rattle.std.proofs.Common.{◌∙◌, arith}
 use Rattle.sharing.proofs.Laws.{stakes_more, stakes_all, stake_within}
 use Rattle.sharing.proofs.parts.total_stake.Goals as goal
 
-pub overflow-add-total : goal.overflow-add-total
-overflow-add-total g c =
+pub overflow_add-total : goal.overflow_add-total
+overflow_add-total g c =
     let s = stake_within g.B.Bearer.stake _ _ _ _ _ c.requires.within c.loop-bearer-test.true c.bearer-item.is c.stake-total.ensures in
     omega (arith, c.loop-bearer.invariant.1, c.requires.few, g.met.B.Bearer.bounded)
 

@@ -4,8 +4,8 @@ use Rattle.std.proofs.lemmas.List.{length-set}
 use Rattle.sheets.proofs.Levels.{level_ranged, under_roof, from_more, from_all}
 use Rattle.sheets.proofs.bearing.from_roof.Goals as goal
 
-pub height-power-requires : goal.height-power-requires
-height-power-requires c =
+pub height_power-requires : goal.height_power-requires
+height_power-requires c =
     let levels = c.args.levels.now in
     let st = c.requires.standing in
     let j = length levels - 1 - c.loop-k.k in
@@ -14,8 +14,8 @@ height-power-requires c =
 
 pub loop-k-preserved : goal.loop-k-preserved
 loop-k-preserved c = (
-  from_more c.args.e c.args.levels.now c.loop-k.row c.loop-k.k _ c.height-power.result c.loop-k-test.true
-      (omega (arith, c.loop-k-test.true, c.loop-k.invariant.1, c.requires.standing.few)) c.loop-k.invariant.0 refl c.height-power.ensures.value,
+  from_more c.args.e c.args.levels.now c.loop-k.row c.loop-k.k _ c.height_power.result c.loop-k-test.true
+      (omega (arith, c.loop-k-test.true, c.loop-k.invariant.1, c.requires.standing.few)) c.loop-k.invariant.0 refl c.height_power.ensures.value,
   length-set _ _ _ ∙ c.loop-k.invariant.1,
 )
 

@@ -7,8 +7,8 @@ use Rattle.sheets.specs.Bearings.{Borne, upper, ground}
 use Rattle.sheets.proofs.Bounds.{upper_le}
 use Rattle.sheets.proofs.bearing.total_upper.Goals as goal
 
-pub overflow-add-total : goal.overflow-add-total
-overflow-add-total c =
+pub overflow_add-total : goal.overflow_add-total
+overflow_add-total c =
     let h : c.loop-bearer.bearer-index < length c.args.bearers.now = c.loop-bearer-test.true in
     let s = upper_le _ (All-get_or Borne c.args.bearers.now c.loop-bearer.bearer-index ground h c.requires.borne) in
     omega (arith, c.loop-bearer.invariant.1, c.requires.few)

@@ -11,8 +11,8 @@ low-requires c =
       borne = borne_at c.args.bearers.now _ c.requires.falling (omega (arith, c.loop-k-test.true, c.loop-k.auto.k));
     }
 
-pub overflow-add-low : goal.overflow-add-low
-overflow-add-low c =
+pub overflow_add-low : goal.overflow_add-low
+overflow_add-low c =
     let b = borne_at c.args.bearers.now (c.loop-k.k - 1) c.requires.falling (omega (arith, c.loop-k-test.true, c.loop-k.auto.k)) in
     omega (arith, c.low.ensures, low_le c.args.portion _ c.requires.amount b)
 

@@ -19,8 +19,8 @@ share-requires c =
       room = omega (arith, c.requires.ready.falling.few);
     }
 
-pub overflow-add-forces : goal.overflow-add-forces
-overflow-add-forces c =
+pub overflow_add-forces : goal.overflow_add-forces
+overflow_add-forces c =
     omega (
       arith,
       share_at c.args.portion.amount c.args.bearers.now _ c.share.new.shares 0 c.share.ensures c.requires.some (omega arith),

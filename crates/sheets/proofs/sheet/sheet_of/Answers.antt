@@ -9,15 +9,15 @@ use Rattle.sheets.proofs.Tables.{table_stands}
 use Rattle.sheets.proofs.Whole.{sound_made}
 use Rattle.sheets.proofs.sheet.sheet_of.Goals as goal
 
-pub from-roof-row-requires : goal.from-roof-row-requires
-from-roof-row-requires c =
-    record { standing = subst Standing (sym c.as-slice.ensures) (table_stands c.args.levels.now c.requires.some); exponent = c.requires.lawful.exponent }
+pub from_roof-row-requires : goal.from_roof-row-requires
+from_roof-row-requires c =
+    record { standing = subst Standing (sym c.as_slice.ensures) (table_stands c.args.levels.now c.requires.some); exponent = c.requires.lawful.exponent }
 
-pub lay-out-requires : goal.lay-out-requires
-lay-out-requires c =
+pub lay_out-requires : goal.lay_out-requires
+lay_out-requires c =
     let t = c.args.levels.now in
     let e = c.args.answers.exponent in
-    let same = front e (listed t) c.as-slice.result.now c.len.result c.from-roof-row.result c.as-slice.ensures c.len.ensures.count c.from-roof-row.ensures in
+    let same = front e (listed t) c.as_slice.result.now c.len.result c.from_roof-row.result c.as_slice.ensures c.len.ensures.count c.from_roof-row.ensures in
     record {
       lawful = c.requires.lawful;
       falling = subst Falling (sym same) (levels_fall e (listed t) c.requires.lawful.exponent (table_stands t c.requires.some));
@@ -29,11 +29,11 @@ returns c =
     let t = c.args.levels.now in
     let a = c.args.answers in
     let old = c.args.lines.now in
-    let same = front a.exponent (listed t) c.as-slice.result.now c.len.result c.from-roof-row.result c.as-slice.ensures c.len.ensures.count c.from-roof-row.ensures in
-    let ea = c.lay-out.ensures.answer ∙ ap (λ (bs : List Bearing). answer a bs (length old)) same in
-    let el = c.lay-out.ensures.lines ∙ ap (λ (bs : List Bearing). after a bs old) same in
+    let same = front a.exponent (listed t) c.as_slice.result.now c.len.result c.from_roof-row.result c.as_slice.ensures c.len.ensures.count c.from_roof-row.ensures in
+    let ea = c.lay_out.ensures.answer ∙ ap (λ (bs : List Bearing). answer a bs (length old)) same in
+    let el = c.lay_out.ensures.lines ∙ ap (λ (bs : List Bearing). after a bs old) same in
     record {
       answer = ea;
       lines = el;
-      laws = sound_made a (listed t) old c.lay-out.new.lines (refused a (bearings a.exponent (listed t)) (length old)) c.lay-out.result c.requires.lawful (table_stands t c.requires.some) refl ea el;
+      laws = sound_made a (listed t) old c.lay_out.new.lines (refused a (bearings a.exponent (listed t)) (length old)) c.lay_out.result c.requires.lawful (table_stands t c.requires.some) refl ea el;
     }

@@ -9,29 +9,29 @@ use Rattle.sheets.proofs.sheet.write_lines.Goals as goal
 pub loop-k-init : goal.loop-k-init
 loop-k-init c = (sofar_none (λ i. get_or c.args.forces.now i 0) (height_at c.args.bearers.now) (length c.args.bearers.now), refl)
 
-pub overflow-sub-moment : goal.overflow-sub-moment
-overflow-sub-moment c = c.loop-k.invariant.0.next c.loop-k-test.true
+pub overflow_sub-moment : goal.overflow_sub-moment
+overflow_sub-moment c = c.loop-k.invariant.0.next c.loop-k-test.true
 
-pub overflow-cast-moment : goal.overflow-cast-moment
-overflow-cast-moment c =
+pub overflow_cast-moment : goal.overflow_cast-moment
+overflow_cast-moment c =
     let t = moment_le (λ i. get_or c.args.forces.now i 0) (height_at c.args.bearers.now) (length c.args.bearers.now) c.loop-k.k c.loop-k.above c.loop-k.shear c.loop-k.moment
     c.loop-k.invariant.0 c.loop-k.auto.k-end c.requires.whole (λ i h. (borne_at c.args.bearers.now i c.requires.ready.falling h).height) in
     omega (arith, t.1)
 
-pub overflow-mul-moment : goal.overflow-mul-moment
-overflow-mul-moment c =
+pub overflow_mul-moment : goal.overflow_mul-moment
+overflow_mul-moment c =
     let t = turn_le (λ i. get_or c.args.forces.now i 0) (height_at c.args.bearers.now) (length c.args.bearers.now) c.loop-k.k c.loop-k.above c.loop-k.shear c.loop-k.moment
     (height_at c.args.bearers.now c.loop-k.k) c.loop-k.invariant.0 c.loop-k.auto.k-end c.requires.some c.requires.whole (λ i h. (borne_at c.args.bearers.now i c.requires.ready.falling h).height) in
     omega (arith, t.0)
 
-pub overflow-add-moment : goal.overflow-add-moment
-overflow-add-moment c =
+pub overflow_add-moment : goal.overflow_add-moment
+overflow_add-moment c =
     let t = turn_le (λ i. get_or c.args.forces.now i 0) (height_at c.args.bearers.now) (length c.args.bearers.now) c.loop-k.k c.loop-k.above c.loop-k.shear c.loop-k.moment
     (height_at c.args.bearers.now c.loop-k.k) c.loop-k.invariant.0 c.loop-k.auto.k-end c.requires.some c.requires.whole (λ i h. (borne_at c.args.bearers.now i c.requires.ready.falling h).height) in
     omega (arith, t.1)
 
-pub overflow-add-shear : goal.overflow-add-shear
-overflow-add-shear c =
+pub overflow_add-shear : goal.overflow_add-shear
+overflow_add-shear c =
     let t = shear_le (λ i. get_or c.args.forces.now i 0) (height_at c.args.bearers.now) (length c.args.bearers.now) c.loop-k.k c.loop-k.above c.loop-k.shear c.loop-k.moment
     1000000 c.loop-k.invariant.0 c.loop-k-test.true c.requires.whole in
     omega (arith, t)
@@ -53,33 +53,33 @@ high-requires c =
       borne = borne_at c.args.bearers.now c.loop-k.k c.requires.ready.falling c.loop-k-test.true;
     }
 
-pub overflow-cast-lines : goal.overflow-cast-lines
-overflow-cast-lines c =
+pub overflow_cast-lines : goal.overflow_cast-lines
+overflow_cast-lines c =
     omega (arith, c.low.ensures, low_amount c.args.portion c.args.bearers.now c.loop-k.k c.requires.ready c.loop-k-test.true)
 
-pub overflow-add-lines : goal.overflow-add-lines
-overflow-add-lines c =
+pub overflow_add-lines : goal.overflow_add-lines
+overflow_add-lines c =
     omega (
       arith,
       c.low.ensures,
       low_amount c.args.portion c.args.bearers.now c.loop-k.k c.requires.ready c.loop-k-test.true,
-      c.at-roof-extra.ensures,
+      c.at_roof-extra.ensures,
       roof_share_le c.args.top c.loop-k.k,
       c.requires.top,
     )
 
-pub overflow-cast-lines-in-loop-k : goal.overflow-cast-lines-in-loop-k
-overflow-cast-lines-in-loop-k c =
+pub overflow_cast-lines-in-loop-k : goal.overflow_cast-lines-in-loop-k
+overflow_cast-lines-in-loop-k c =
     omega (arith, c.high.ensures, low_amount c.args.portion c.args.bearers.now c.loop-k.k c.requires.ready c.loop-k-test.true, c.requires.certain c.loop-k.k c.loop-k-test.true)
 
-pub overflow-add-lines-in-loop-k : goal.overflow-add-lines-in-loop-k
-overflow-add-lines-in-loop-k c =
+pub overflow_add-lines-in-loop-k : goal.overflow_add-lines-in-loop-k
+overflow_add-lines-in-loop-k c =
     omega (
       arith,
       c.high.ensures,
       low_amount c.args.portion c.args.bearers.now c.loop-k.k c.requires.ready c.loop-k-test.true,
       c.requires.certain c.loop-k.k c.loop-k-test.true,
-      c.at-roof-extra.ensures,
+      c.at_roof-extra.ensures,
       roof_share_le c.args.top c.loop-k.k,
       c.requires.top,
     )
@@ -94,13 +94,13 @@ loop-k-preserved c =
       more,
       written_more (line_of f c.args.top c.args.portion c.args.bearers.now) c.loop-k.k c.args.lines.now c.loop-k.lines _ no_line
           (omega (arith, c.loop-k-test.true, c.requires.room)) c.loop-k.invariant.1
-          (line_is f c.args.top c.args.portion c.args.bearers.now c.loop-k.k c.low.result c.high.result c.at-roof-extra.result _ _
-          c.low.ensures c.high.ensures c.at-roof-extra.ensures more.sheared
+          (line_is f c.args.top c.args.portion c.args.bearers.now c.loop-k.k c.low.result c.high.result c.at_roof-extra.result _ _
+          c.low.ensures c.high.ensures c.at_roof-extra.ensures more.sheared
           (turned_next f h n c.loop-k.k c.loop-k.above c.loop-k.shear c.loop-k.moment so c.loop-k-test.true)),
     )
 
-pub overflow-add-result : goal.overflow-add-result
-overflow-add-result c =
+pub overflow_add-result : goal.overflow_add-result
+overflow_add-result c =
     let t = turn_le (λ i. get_or c.args.forces.now i 0) (height_at c.args.bearers.now) (length c.args.bearers.now) c.loop-k.k c.loop-k.above c.loop-k.shear c.loop-k.moment
     0 c.loop-k.invariant.0 c.loop-k.auto.k-end c.requires.some c.requires.whole (λ i h. (borne_at c.args.bearers.now i c.requires.ready.falling h).height) in
     let z : c.loop-k.above - 0 ≡ c.loop-k.above = omega arith in

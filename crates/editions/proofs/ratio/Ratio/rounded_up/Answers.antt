@@ -7,4 +7,4 @@ use Rattle.editions.proofs.ratio.Ratio.rounded_up.Goals as goal
 pub returns : goal.returns
 returns c =
     let p = c.args.self in
-    record { value = c.div-ceil.ensures; ceiling = subst (Ceiling p) (sym c.div-ceil.ensures) (up_ceiling p c.requires) }
+    record { value = c.div_ceil.ensures; ceiling = subst (Ceiling p) (sym c.div_ceil.ensures) (up_ceiling p c.requires) }

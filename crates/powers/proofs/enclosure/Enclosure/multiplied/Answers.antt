@@ -9,10 +9,10 @@ use Rattle.powers.proofs.Digits.{scale_pos}
 use Rattle.powers.proofs.Root.{down_least, up_least}
 use Rattle.powers.proofs.enclosure.Enclosure.multiplied.Goals as goal
 
-pub overflow-cast-result : goal.overflow-cast-result
-overflow-cast-result c = Fits-below {n = scale} tt (down_least _ scale scale scale_pos (mul-le-mul {n₂ = scale} {m₂ = scale} (omega arith) (omega arith)))
+pub overflow_cast-result : goal.overflow_cast-result
+overflow_cast-result c = Fits-below {n = scale} tt (down_least _ scale scale scale_pos (mul-le-mul {n₂ = scale} {m₂ = scale} (omega arith) (omega arith)))
 
-pub overflow-cast-result-2 : goal.overflow-cast-result-2
-overflow-cast-result-2 c =
+pub overflow_cast-result-2 : goal.overflow_cast-result-2
+overflow_cast-result-2 c =
     Fits-below {n = scale} tt
-    (subst (λ (n : ℕ). n ≤ scale) (sym c.div-ceil.ensures) (up_least _ scale scale scale_pos (mul-le-mul {n₂ = scale} {m₂ = scale} (omega arith) (omega arith))))
+    (subst (λ (n : ℕ). n ≤ scale) (sym c.div_ceil.ensures) (up_least _ scale scale scale_pos (mul-le-mul {n₂ = scale} {m₂ = scale} (omega arith) (omega arith))))

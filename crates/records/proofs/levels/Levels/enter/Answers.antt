@@ -12,10 +12,10 @@ pub returns-in-Ok : goal.returns-in-Ok
 returns-in-Ok c =
     let t = c.args.self.now in
     let h = c.args.height in
-    let figures = c.in-ok-admit-figures.ensures in
+    let figures = c.in_ok-admit_figures.ensures in
     record {
       refusal = neither _ _ figures.refusal (room height_of LevelsFull (listed t) h 64 (room_over height_of 64 (listed t) h c.in-Ok.i unused t.rising c.in-Ok.ensures));
-      after = (reloaded t h c.in-Ok.i c.in-Ok.ensures c.record-at-stands.result.now c.record-at-stands.ensures.value c.args.weight c.args.gravity figures.fit).becomes;
+      after = (reloaded t h c.in-Ok.i c.in-Ok.ensures c.record_at-stands.result.now c.record_at-stands.ensures.value c.args.weight c.args.gravity figures.fit).becomes;
     }
 
 pub returns : goal.returns
@@ -24,13 +24,13 @@ returns c =
     let h = c.args.height in
     let e = c.in-Some.ensures in
     record {
-      refusal = neither _ _ c.in-ok-admit-figures.ensures.refusal (room height_of LevelsFull xs h 64 e.0);
-      after = new_becomes xs (rows c.in-Some.rows) h c.args.weight c.args.gravity c.in-default.field-0 c.in-default.ensures e.1.becomes;
+      refusal = neither _ _ c.in_ok-admit_figures.ensures.refusal (room height_of LevelsFull xs h 64 e.0);
+      after = new_becomes xs (rows c.in-Some.rows) h c.args.weight c.args.gravity c.in_default.field-0 c.in_default.ensures e.1.becomes;
     }
 
-pub invariant-of-self : goal.invariant-of-self
-invariant-of-self c =
+pub invariant_of-self : goal.invariant_of-self
+invariant_of-self c =
     let o =
-    (reloaded c.args.self.now c.args.height c.in-Ok.i c.in-Ok.ensures c.record-at-stands.result.now c.record-at-stands.ensures.value
-    c.args.weight c.args.gravity c.in-ok-admit-figures.ensures.fit).ordered in
+    (reloaded c.args.self.now c.args.height c.in-Ok.i c.in-Ok.ensures c.record_at-stands.result.now c.record_at-stands.ensures.value
+    c.args.weight c.args.gravity c.in_ok-admit_figures.ensures.fit).ordered in
     (o.whole, (o.rising, (o.clear, (o.fits, tt))))

@@ -12,7 +12,7 @@ returns c =
     let n = c.args.number in
     let v = c.args.value in
     let is = c.in-Some.ensures.value in
-    let admitted = c.in-ok-admit.ensures in
+    let admitted = c.in_ok-admit.ensures in
     let there : n < length s.entries = search rules in
     let after : Settings = record { entries = set s.entries n (Some v) } in
     let sets : Sets s after n v = λ (k : ℕ). put_sets s.entries n v k there in

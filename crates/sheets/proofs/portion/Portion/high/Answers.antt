@@ -3,10 +3,10 @@ use Rattle.std.proofs.Common.{arith}
 use Rattle.sheets.proofs.Bounds.{upper_le, amount_le}
 use Rattle.sheets.proofs.portion.Portion.high.Goals as goal
 
-pub overflow-mul-result : goal.overflow-mul-result
-overflow-mul-result c =
+pub overflow_mul-result : goal.overflow_mul-result
+overflow_mul-result c =
     omega (arith, amount_le c.args.self.amount c.upper.result c.requires.amount (omega (arith, c.upper.ensures, upper_le c.args.bearer c.requires.borne)))
 
-pub overflow-add-result : goal.overflow-add-result
-overflow-add-result c =
+pub overflow_add-result : goal.overflow_add-result
+overflow_add-result c =
     omega (arith, amount_le c.args.self.amount c.upper.result c.requires.amount (omega (arith, c.upper.ensures, upper_le c.args.bearer c.requires.borne)), c.requires.few)

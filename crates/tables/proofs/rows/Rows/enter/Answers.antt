@@ -11,10 +11,10 @@ returns-in-Ok g c =
     let key = g.R.Keyed.key in
     let t = c.args.self in
     let x = c.args.x in
-    let put = c.put-at.ensures in
+    let put = c.put_at.ensures in
     let has : Holds key (rows t) (key x) c.in-Ok.i = subst (λ (k : ℕ). Holds key (rows t) k c.in-Ok.i) c.key.ensures c.in-Ok.ensures in (
       room_over key g.row.N (rows t) (key x) c.in-Ok.i x c.requires.ordered.rising has,
-      written_over key g.R.Keyed.fit g.R.Keyed.blank t c.put-at.result c.requires.ordered put.whole (put.clear g.R.Keyed.blank c.requires.ordered.clear) x c.in-Ok.i c.requires.fit has put.records,
+      written_over key g.R.Keyed.fit g.R.Keyed.blank t c.put_at.result c.requires.ordered put.whole (put.clear g.R.Keyed.blank c.requires.ordered.clear) x c.in-Ok.i c.requires.fit has put.records,
     )
 
 -- no record has the key of x, and x would stand at the place that `seek` answers
@@ -23,10 +23,10 @@ returns-then-len g c =
     let key = g.R.Keyed.key in
     let t = c.args.self in
     let x = c.args.x in
-    let put = c.insert-at.ensures in
+    let put = c.insert_at.ensures in
     let lack : Lacks key (rows t) (key x) c.in-Err.i = subst (λ (k : ℕ). Lacks key (rows t) k c.in-Err.i) c.key.ensures c.in-Err.ensures in (
       room_new key g.row.N (rows t) (key x) c.in-Err.i lack (omega arith),
-      written_in key g.R.Keyed.fit g.R.Keyed.blank t c.insert-at.result c.requires.ordered put.whole (put.clear g.R.Keyed.blank c.requires.ordered.clear) x c.in-Err.i c.requires.fit lack put.records,
+      written_in key g.R.Keyed.fit g.R.Keyed.blank t c.insert_at.result c.requires.ordered put.whole (put.clear g.R.Keyed.blank c.requires.ordered.clear) x c.in-Err.i c.requires.fit lack put.records,
     )
 
 pub returns-else-len : goal.returns-else-len

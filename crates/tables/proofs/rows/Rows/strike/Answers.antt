@@ -11,9 +11,9 @@ returns-in-Ok g c =
     let blank = g.R.Keyed.blank in
     let t = c.args.self in
     let has = c.in-Ok.ensures in
-    let removed = c.remove-at.ensures in (
+    let removed = c.remove_at.ensures in (
       ap is_some (holds_found key (rows t) c.args.k c.in-Ok.i blank c.requires.rising has),
-      written_out key g.R.Keyed.fit blank t c.remove-at.result c.requires removed.whole
+      written_out key g.R.Keyed.fit blank t c.remove_at.result c.requires removed.whole
           (λ i d h. removed.clear (λ j e l. c.requires.clear j e l ∙ sym c.blank.ensures) i d h ∙ c.blank.ensures)
           c.args.k c.in-Ok.i has removed.records,
     )
