@@ -1,6 +1,6 @@
 -- What a deck comes to: the totals and lines of its job's sheet, or a fault with its line; and the bytes that say so.
 use Rattle.std.specs.Prelude.{◌≡◌, ℕ, ◌<◌, ◌≤◌, List, length, Ok, Err, Result}
-use Rattle.bytes.specs.Wrote.{Puts}
+use Rattle.text_bytes.specs.Wrote.{Puts}
 use Rattle.editions.specs.declared.edition.Answers.{Answers}
 use Rattle.editions.specs.declared.nehrp2003.Nehrp2003.{Nehrp2003}
 use Rattle.editions.specs.Nehrp2003 as nehrp

@@ -1,6 +1,6 @@
 -- The bytes of a listing and of a fault: numbers in decimal, fields parted by one space (32), lines ended by byte 10.
 use Rattle.std.specs.Prelude.{ℕ, List, [], ◌∷◌, ◌++◌, codes}
-use Rattle.bytes.specs.Wrote.{field}
+use Rattle.text_bytes.specs.Wrote.{field}
 use Rattle.faults.specs.Numbers.{cause_number, layer_number}
 use Rattle.grammar.specs.declared.entry.Refusal.{Refusal}
 use Rattle.sheets.specs.declared.line.Line.{Line}

@@ -1,9 +1,9 @@
 //! The bytes of a listing and of a fault.
 ghost use Rattle.std.specs.Prelude.{◌+◌, ◌*◌, ◌≤◌, length};
-ghost use Rattle.bytes.specs.Wrote.{Puts};
+ghost use Rattle.text_bytes.specs.Wrote.{Puts};
 ghost use Rattle.decks.specs.Listing.{line_bytes, lines_bytes, base_bytes, listing as listing_bytes, fault_bytes};
 
-use bytes::put::{put_bytes, put_long, put_short};
+use text_bytes::put::{put_bytes, put_long, put_short};
 use grammar::entry::Refusal;
 use sheets::line::{Line, Totals};
 

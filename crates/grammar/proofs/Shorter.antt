@@ -1,7 +1,7 @@
 -- A line that is read leaves fewer bytes.
 use Rattle.std.proofs.Common.{◌≡◌, ℕ, ◌<◌, Bool, true, false, eqb, List, [], ◌∷◌, length, Ok, Err, Result, sym, refl, ap, ◌∙◌, inl, inr, arith}
 use Rattle.std.proofs.lemmas.Bool.{cases_Bool, cond-true, cond-false, both_ways}
-use Rattle.bytes.specs.Pieces.{has, after}
+use Rattle.text_bytes.specs.Pieces.{has, after}
 use Rattle.faults.specs.declared.fault.Fault.{Fault}
 use Rattle.grammar.specs.Lines.{malformed, then, in_line}
 

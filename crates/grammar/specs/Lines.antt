@@ -2,8 +2,8 @@
 use Rattle.std.specs.Prelude.{◌≡◌, ℕ, Bool, true, false, cond, ◌&&◌, List, [], length, Some, None, Ok, Err, Option, Result, ◌==◌, slice_index_or}
 use Rattle.std.specs.Borrow.{Bor}
 use Rattle.std.specs.Option.{ok_or}
-use Rattle.bytes.specs.Numbers.{number_in}
-use Rattle.bytes.specs.Pieces.{has, before, after, others}
+use Rattle.text_bytes.specs.Numbers.{number_in}
+use Rattle.text_bytes.specs.Pieces.{has, before, after, others}
 use Rattle.faults.specs.declared.fault.Cause.TheVariants.{LineMalformed, FieldMalformed}
 use Rattle.faults.specs.declared.fault.Fault.{Fault}
 use Rattle.faults.specs.declared.fault.Layer.TheVariants.{Deck}

@@ -1,7 +1,7 @@
 -- The lines of a deck after the edition, handed over one by one.
 use Rattle.std.specs.Prelude.{◌≡◌, ℕ, ◌+◌, ◌⊎◌, List, [], ◌∷◌, Some, None, Ok, Err, Option, Result}
 use Rattle.std.specs.Borrow.{Bor}
-use Rattle.bytes.specs.Pieces.{after}
+use Rattle.text_bytes.specs.Pieces.{after}
 use Rattle.faults.specs.declared.fault.Fault.{Fault}
 use Rattle.grammar.specs.declared.entry.Entry.{Entry}
 use Rattle.grammar.specs.declared.entry.Refusal.{Refusal}

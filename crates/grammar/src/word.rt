@@ -2,7 +2,7 @@
 ghost use Rattle.std.specs.Prelude.{◌≡◌};
 ghost use Rattle.grammar.specs.Words.{word_of, arity as arity_of};
 
-use bytes::cut::is;
+use text_bytes::cut::is;
 
 /// The word that a line begins with.
 #[derive(Clone, Copy)]

@@ -1,4 +1,3 @@
--- Lemmas on levels and on refusals.
-pub mod Entering
-pub mod Refusals
+-- Lemmas on levels.
+pub mod Reloaded
 pub mod Weights

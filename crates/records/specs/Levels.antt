@@ -1,40 +1,34 @@
--- The table of levels as a list, lowest first, what an entry leaves, and why it is refused.
-use Rattle.std.specs.Prelude.{◌≡◌, ℕ, List, Option}
+-- The table of levels as a list, lowest first, and why an entry or a drop is refused.
+use Rattle.std.specs.Prelude.{ℕ, cond, not, ◌&&◌, List, length, is_some, Some, None, Option, nat_le}
 use Rattle.faults.specs.declared.fault.Cause.TheVariants.{HeightRange, WeightRange, GravityRange, LevelsFull, LevelAbsent}
 use Rattle.faults.specs.declared.fault.Fault.{Fault}
+use Rattle.faults.specs.declared.fault.Layer.TheVariants.{Tables}
+use Rattle.faults.specs.Numbers.{fault}
 use Rattle.faults.specs.Ranges.{outside, ◌or_else◌}
 use Rattle.tables.specs.Keys.{found}
 use Rattle.tables.specs.Rows.{rows}
-use Rattle.records.specs.declared.analysis.Analysis.{Analysis}
 use Rattle.records.specs.declared.level.Level.{Level}
 use Rattle.records.specs.declared.levels.Levels.{Levels}
-use Rattle.records.specs.Analysis as analysis
-use Rattle.records.specs.Level.{level, height_of, analysis_of, heights, weights, gravity_loads}
-use Rattle.records.specs.Refusals.{room_refusal, none_refusal}
+use Rattle.records.specs.Level.{height_of, heights, weights, gravity_loads}
 
 abbrev pub listed : Levels → List Level
 listed t = rows t.rows
 
--- the table t is told by what it finds: every table of levels that finds the same at every height is t
-abbrev pub Determined : Levels → Type 0
-Determined t = (u : Levels) → ((h : ℕ) → found height_of (listed u) h ≡ found height_of (listed t) h) → u ≡ t
-
--- the level that an entry leaves at its height: the new weight and gravity load, and the analysis that stood there
-abbrev pub entered : List Level → ℕ → ℕ → ℕ → Level
-entered xs h w g = level h w g (analysis_of (found height_of xs h))
-
 -- the first figure out of range: height, weight, gravity load; the place is the figure
-abbrev pub figure_refusal : ℕ → ℕ → ℕ → Option Fault
-figure_refusal h w g = outside heights HeightRange h h or_else (outside weights WeightRange w w or_else outside gravity_loads GravityRange g g)
+abbrev pub figure_refusal : Level → Option Fault
+figure_refusal x =
+    outside heights HeightRange x.height x.height
+    or_else (outside weights WeightRange x.weight x.weight
+    or_else outside gravity_loads GravityRange x.gravity x.gravity)
 
--- why entering a level is refused: a figure, then want of room
-abbrev pub enter_refusal : List Level → ℕ → ℕ → ℕ → Option Fault
-enter_refusal xs h w g = figure_refusal h w g or_else room_refusal height_of LevelsFull 64 xs h
+-- 64 levels, and none at the height h, which is the place
+abbrev pub room_refusal : List Level → ℕ → Option Fault
+room_refusal xs h = cond (not (is_some (found height_of xs h)) && nat_le 64 (length xs)) (Some (fault Tables LevelsFull h)) None
 
--- no level stands at the height h: why dropping one there is refused
-abbrev pub absent_refusal : List Level → ℕ → Option Fault
-absent_refusal xs h = none_refusal height_of LevelAbsent xs h
+-- why entering the level x is refused
+abbrev pub enter_refusal : List Level → Level → Option Fault
+enter_refusal xs x = figure_refusal x or_else room_refusal xs x.height
 
--- why an analysis of the level at the height h is refused: no level, then a figure
-abbrev pub analysis_refusal : List Level → ℕ → Analysis → Option Fault
-analysis_refusal xs h a = absent_refusal xs h or_else analysis.figure_refusal a
+-- why dropping the level at the height h is refused: none is there
+abbrev pub drop_refusal : List Level → ℕ → Option Fault
+drop_refusal xs h = cond (is_some (found height_of xs h)) None (Some (fault Tables LevelAbsent h))

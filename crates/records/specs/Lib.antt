@@ -1,4 +1,4 @@
--- Levels, analyses and walls: their figures, their tables, and why an entry is refused.
+-- Levels, walls and analyses: their figures, the tables of levels and of walls, and why an entry is refused.
 pub mod Analysis
 pub mod Level
 pub mod Levels

@@ -7,10 +7,6 @@ use Rattle.records.specs.declared.wall.Wall.{Wall}
 abbrev pub wall : ℕ → ℕ → Wall
 wall p r = record { position = p; rigidity = r }
 
--- what a cell holds that no wall uses
-abbrev pub unused : Wall
-unused = wall 0 0
-
 abbrev pub position_of : Wall → ℕ
 position_of x = x.position
 

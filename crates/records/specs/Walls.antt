@@ -1,9 +1,8 @@
 -- The table of walls as a list, least position first, and why an entry or a drop is refused.
-use Rattle.std.specs.Prelude.{◌≡◌, ℕ, List, Option}
+use Rattle.std.specs.Prelude.{ℕ, List, Option}
 use Rattle.faults.specs.declared.fault.Cause.TheVariants.{PositionRange, RigidityRange, WallsFull, WallAbsent}
 use Rattle.faults.specs.declared.fault.Fault.{Fault}
 use Rattle.faults.specs.Ranges.{outside, ◌or_else◌}
-use Rattle.tables.specs.Keys.{found}
 use Rattle.tables.specs.Rows.{rows}
 use Rattle.records.specs.declared.wall.Wall.{Wall}
 use Rattle.records.specs.declared.walls.Walls.{Walls}
@@ -12,10 +11,6 @@ use Rattle.records.specs.Wall.{position_of, positions, rigidities}
 
 abbrev pub listed : Walls → List Wall
 listed t = rows t.rows
-
--- the table t is told by what it finds: every table of walls that finds the same at every position is t
-abbrev pub Determined : Walls → Type 0
-Determined t = (u : Walls) → ((p : ℕ) → found position_of (listed u) p ≡ found position_of (listed t) p) → u ≡ t
 
 -- why entering a wall is refused: position, then rigidity out of range, the place being the figure, then want of room
 abbrev pub enter_refusal : List Wall → ℕ → ℕ → Option Fault

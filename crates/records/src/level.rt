@@ -1,17 +1,15 @@
-//! A level of the building: its height above the base, its weight, its gravity load, and perhaps an analysis.
-ghost use Rattle.records.specs.Level.{height_of, Fit, unused};
+//! A level of the building: its height above the base, its weight and its gravity load.
+ghost use Rattle.records.specs.Level.{height_of, Fit};
 
-use crate::analysis::Analysis;
 use faults::range::Range;
 use tables::keyed::Keyed;
 
 /// A level. Heights are in mm, weights and loads in units of 0.1 kN.
-#[derive(Clone, Copy, PartialEq, Debug)]
+#[derive(Clone, Copy, PartialEq, Eq, Debug)]
 pub struct Level {
     pub height: u32,
     pub weight: u32,
     pub gravity: u32,
-    pub analysis: Option<Analysis>,
 }
 
 /// The heights that a level may have.
@@ -37,18 +35,7 @@ impl Keyed for Level {
 
     ghost fit = { Fit };
 
-    ghost blank = { unused };
-
     fn key(&self) -> u32 {
         self.height
-    }
-
-    fn blank() -> Level {
-        Level {
-            height: 0,
-            weight: 0,
-            gravity: 0,
-            analysis: None,
-        }
     }
 }

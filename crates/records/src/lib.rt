@@ -1,5 +1,6 @@
-//! A job's records and the tables that keep them: levels by height, perhaps with an analysis, and walls by position.
+//! A job's records and the tables that keep them: levels by height and walls by position, and the figures of an analysis.
 #![tactic(auto)]
+
 pub mod analysis;
 pub mod level;
 pub mod levels;

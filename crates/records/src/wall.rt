@@ -1,5 +1,5 @@
 //! A wall of the building: its position along the building and its rigidity.
-ghost use Rattle.records.specs.Wall.{position_of, Fit, unused};
+ghost use Rattle.records.specs.Wall.{position_of, Fit};
 
 use faults::range::Range;
 use tables::keyed::Keyed;
@@ -28,16 +28,7 @@ impl Keyed for Wall {
 
     ghost fit = { Fit };
 
-    ghost blank = { unused };
-
     fn key(&self) -> u32 {
         self.position
-    }
-
-    fn blank() -> Wall {
-        Wall {
-            position: 0,
-            rigidity: 0,
-        }
     }
 }

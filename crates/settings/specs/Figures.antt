@@ -1,5 +1,5 @@
 -- What stands in a record of settings, and what setting one answers and writes.
-use Rattle.std.specs.Prelude.{◌≡◌, ℕ, Some, None, Option, nat_eq, slice_index_or}
+use Rattle.std.specs.Prelude.{◌≡◌, ℕ, Some, None, Option, nat_eq, slice_index_or, slice_set}
 use Rattle.std.specs.Map.{update}
 use Rattle.std.specs.Option.{unwrap_or}
 use Rattle.faults.specs.declared.fault.Fault.{Fault}
@@ -31,6 +31,10 @@ Allowed n v = Within (unwrap_or (range_at n) nothing) v
 -- every figure that stands is in its range
 abbrev pub InRange : Settings → Type 0
 InRange s = (n v : ℕ) → entry s n ≡ Some v → Allowed n v
+
+-- s with the figure v at n
+abbrev pub written : Settings → ℕ → ℕ → Settings
+written s n v = record { entries = slice_set s.entries n (Some v) }
 
 -- t has the figure v at n, and at every other number what s has
 abbrev pub Sets : Settings → Settings → ℕ → ℕ → Type 0

@@ -1,5 +1,5 @@
--- The settings in the order of their numbers, and the range of each.
-use Rattle.std.specs.Prelude.{ℕ, ◌<◌, ◌≤◌, List, [], ◌∷◌, map, Option, MatchOption}
+-- The settings in the order of their numbers, the number of each, and the range at each number.
+use Rattle.std.specs.Prelude.{ℕ, ◌<◌, ◌≤◌, List, [], ◌∷◌, Option, MatchOption}
 use Rattle.std.specs.List.{slice_get}
 use Rattle.faults.specs.declared.range.Range.{Range}
 use Rattle.faults.specs.Ranges.{◌to◌}
@@ -29,28 +29,13 @@ number_of Ca = 13
 number_of Cv = 14
 number_of Zn = 15
 
--- the figures that a setting takes
-abbrev pub range_of : Setting → Range
-range_of R = 100 to 1000
-range_of I = 100 to 150
-range_of T = 1 to 20000
-range_of Ta = 1 to 20000
-range_of Cu = 100 to 200
-range_of Drift = 1 to 50
-range_of Edge = 0 to 1
-range_of Sds = 1 to 4000
-range_of Sd1 = 1 to 4000
-range_of S1 = 0 to 4000
-range_of Tl = 1000 to 20000
-range_of Cd = 100 to 1000
-range_of Beta = 1 to 100
-range_of Ca = 1 to 2000
-range_of Cv = 1 to 2000
-range_of Zn = 0 to 1000
+abbrev pub ranges : List Range
+ranges =
+    (100 to 1000) ∷ (100 to 150) ∷ (1 to 20000) ∷ (1 to 20000) ∷ (100 to 200) ∷ (1 to 50) ∷ (0 to 1) ∷ (1 to 4000) ∷ (1 to 4000) ∷ (0 to 4000)
+    ∷ (1000 to 20000) ∷ (100 to 1000) ∷ (1 to 100) ∷ (1 to 2000) ∷ (1 to 2000) ∷ (0 to 1000) ∷ []
 
--- the range at a number, if it is a setting's
 abbrev pub range_at : ℕ → Option Range
-range_at n = slice_get (map range_of settings) n
+range_at n = slice_get ranges n
 
 -- some figure lies in the range, and none is above 20,000
 pub record Usable (r : Range) : Type 0 where

@@ -1,7 +1,7 @@
 //! The record of a job's settings: a figure for each that has one. Plain: that the figures are in range is for its owner to keep.
-ghost use Rattle.std.specs.Prelude.{◌≡◌, ℕ, true, is_some, None, MatchResult};
+ghost use Rattle.std.specs.Prelude.{◌≡◌, ℕ, true, is_some, is_ok, if◌then◌else◌, None, MatchResult};
 ghost use Rattle.std.specs.Result.{result_err};
-ghost use Rattle.settings.specs.Figures.{entry, figure as figure_of, Allowed, InRange, Sets, refusal};
+ghost use Rattle.settings.specs.Figures.{entry, figure as figure_of, Allowed, InRange, written, Sets, refusal};
 ghost use Rattle.settings.specs.Ranges.{number_of};
 
 use crate::setting::{Setting, range_of};
@@ -36,7 +36,8 @@ impl Settings {
     /// Gives the setting with that number a figure, in place of what stood; refuses an unknown number and a figure out of range.
     pub fn set(&mut self, number: u32, value: u32) -> Result<(), Fault>
         ensures refusal { result_err result ≡ refusal number value }
-        ensures after { MatchResult result (λ _. Sets self.old self.new number value) (λ _. self.new ≡ self.old) }
+        ensures after { self.new ≡ (if is_ok result then written self.old number value else self.old) }
+        ensures sets { MatchResult result (λ _. Sets self.old self.new number value) (λ _. self.new ≡ self.old) }
         ensures ranged { InRange self.old → InRange self.new }
     {
         let Some(range) = range_of(number) else {

@@ -1,4 +1,5 @@
 //! Sharing an amount over bearers by their stakes: one text for every kind of bearer.
 #![tactic(auto)]
+
 pub mod bearer;
 pub mod parts;

@@ -1,5 +1,5 @@
 -- Lists of records by a key: a table as a map from keys to records.
-use Rattle.std.specs.Prelude.{◌≡◌, ℕ, ◌<◌, ◌≤◌, Bool, cond, not, ◌&&◌, List, [], ◌∷◌, length, is_some, Some, None, Option, ◌==◌, nat_eq, nat_le, slice_index_or}
+use Rattle.std.specs.Prelude.{◌≡◌, ℕ, ◌<◌, ◌≤◌, cond, List, [], ◌∷◌, length, Some, None, Option, ◌==◌, nat_eq, slice_index_or}
 use Rattle.std.specs.Map.{update}
 
 -- P holds of each record
@@ -27,14 +27,23 @@ module _ {R : Type 0} (key : R → ℕ) where
     pub before : (j : ℕ) (d : R) → j < i → key (slice_index_or xs j d) < k
     pub after : (j : ℕ) (d : R) → i ≤ j → j < length xs → k < key (slice_index_or xs j d)
 
-  -- a record stands at the key k
-  abbrev pub stands : List R → ℕ → Bool
-  stands xs k = is_some (found xs k)
-
-  -- n records or more, and none at the key k
-  abbrev pub full : ℕ → List R → ℕ → Bool
-  full n xs k = not (stands xs k) && nat_le n (length xs)
+  -- n records, and none at the key k
+  abbrev pub Full : ℕ → List R → ℕ → Type 0
+  Full n xs k = (found xs k ≡ None) × (length xs ≡ n)
 
   -- ys finds w at the key k, and at every other key what xs finds
-  abbrev pub Becomes : List R → List R → ℕ → Option R → Type 0
-  Becomes xs ys k w = (q : ℕ) → found ys q ≡ update nat_eq (found xs) k w q
+  pub record Becomes (xs ys : List R) (k : ℕ) (w : Option R) : Type 0 where
+    pub rising : Rising ys
+    pub finds : (q : ℕ) → found ys q ≡ update nat_eq (found xs) k w q
+
+  -- x went into xs, of n records at most: it stands at its key, and every figure is still in range
+  pub record Entered (fit : R → Type 0) (n : ℕ) (xs ys : List R) (x : R) : Type 0 where
+    pub room : Full n xs (key x) → ⊥
+    pub fits : Each fit ys
+    pub becomes : Becomes xs ys (key x) (Some x)
+
+  -- the record at the key k went out of xs
+  pub record Struck (fit : R → Type 0) (xs ys : List R) (k : ℕ) : Type 0 where
+    pub stood : found xs k ≡ None → ⊥
+    pub fits : Each fit ys
+    pub becomes : Becomes xs ys k None

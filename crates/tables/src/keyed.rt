@@ -1,7 +1,7 @@
 //! Records in order of a key: what stands at a key, entered and struck out by it.
-ghost use Rattle.std.specs.Prelude.{◌≡◌, ℕ, true, false, Some, None, MatchOption, MatchResult};
-ghost use Rattle.tables.specs.Keys.{found, stands, full, Holds, Lacks};
-ghost use Rattle.tables.specs.Rows.{rows, Ordered, Written, Determined};
+ghost use Rattle.std.specs.Prelude.{◌≡◌, ℕ, Some, None, MatchOption, MatchResult};
+ghost use Rattle.tables.specs.Keys.{found, Rising, Each, Holds, Lacks, Full, Entered, Struck};
+ghost use Rattle.tables.specs.Rows.{rows, Whole};
 
 use crate::rows::Rows;
 
@@ -12,21 +12,16 @@ pub trait Keyed: Copy {
     /// The record's figures are in range.
     ghost fit: { Self → Type 0 };
 
-    /// What a cell holds that no record uses.
-    ghost blank: { Self };
-
     fn key(&self) -> u32
         ensures { result ≡ key self.now };
-
-    fn blank() -> Self
-        ensures { result ≡ blank };
 }
 
 impl<R: Keyed, const N: usize> Rows<R, N> {
     /// The place of the record at the key `k`, or else the place where one would stand.
     pub fn seek(&self, k: u32) -> Result<usize, usize>
-        requires { Ordered key fit blank self.now }
-        ensures { MatchResult result (λ i. Holds key (rows self.now) k i) (λ i. Lacks key (rows self.now) k i) }
+        requires whole { Whole self.now }
+        requires rising { Rising R.key (rows self.now) }
+        ensures { MatchResult result (λ i. Holds R.key (rows self.now) k i) (λ i. Lacks R.key (rows self.now) k i) }
     {
         for i in 0..self.len() {
             let here = self.at(i).key();
@@ -40,11 +35,11 @@ impl<R: Keyed, const N: usize> Rows<R, N> {
         Err(self.len())
     }
 
-    /// The record at the key `k`, if there is one. A table that finds the same at every key is the same table.
+    /// The record at the key `k`, if there is one.
     pub fn find(&self, k: u32) -> Option<R>
-        requires { Ordered key fit blank self.now }
-        ensures value { result ≡ found key (rows self.now) k }
-        ensures determined { Determined key fit blank self.now }
+        requires whole { Whole self.now }
+        requires rising { Rising R.key (rows self.now) }
+        ensures { result ≡ found R.key (rows self.now) k }
     {
         match self.seek(k) {
             Ok(i) => Some(self.at(i)),
@@ -54,9 +49,11 @@ impl<R: Keyed, const N: usize> Rows<R, N> {
 
     /// The table with `x` at its key, in place of what stood there; none if it is full and has nothing at that key.
     pub fn enter(self, x: R) -> Option<Self>
-        requires ordered { Ordered key fit blank self }
-        requires fit { fit x }
-        ensures { MatchOption result (full key N (rows self) (key x) ≡ true) (λ t. (full key N (rows self) (key x) ≡ false) × Written key fit blank self t (key x) (Some x)) }
+        requires whole { Whole self }
+        requires rising { Rising R.key (rows self) }
+        requires fits { Each R.fit (rows self) }
+        requires fit { R.fit x }
+        ensures { MatchOption result (Full R.key N (rows self) (R.key x)) (λ t. Whole t × Entered R.key R.fit N (rows self) (rows t) x) }
     {
         match self.seek(x.key()) {
             Ok(i) => Some(self.put_at(i, x)),
@@ -72,11 +69,13 @@ impl<R: Keyed, const N: usize> Rows<R, N> {
 
     /// The table with nothing at the key `k`; none if nothing is there.
     pub fn strike(self, k: u32) -> Option<Self>
-        requires { Ordered key fit blank self }
-        ensures { MatchOption result (stands key (rows self) k ≡ false) (λ t. (stands key (rows self) k ≡ true) × Written key fit blank self t k None) }
+        requires whole { Whole self }
+        requires rising { Rising R.key (rows self) }
+        requires fits { Each R.fit (rows self) }
+        ensures { MatchOption result (found R.key (rows self) k ≡ None) (λ t. Whole t × Struck R.key R.fit (rows self) (rows t) k) }
     {
         match self.seek(k) {
-            Ok(i) => Some(self.remove_at(i, R::blank())),
+            Ok(i) => Some(self.remove_at(i)),
             Err(_) => None,
         }
     }

@@ -1,4 +1,5 @@
 //! Tables of records in order of a key, for every kind of record.
 #![tactic(auto)]
+
 pub mod keyed;
 pub mod rows;

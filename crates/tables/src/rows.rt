@@ -1,7 +1,7 @@
 //! The plain table: records at the front of an array, changed by place with no regard to keys. It has no invariant.
 ghost use Rattle.std.specs.Prelude.{◌≡◌, ◌<◌, ◌≤◌, [], length, slice_index_or, slice_set};
 ghost use Rattle.std.specs.List.{insert, remove};
-ghost use Rattle.tables.specs.Rows.{rows, Whole, Clear};
+ghost use Rattle.tables.specs.Rows.{rows, Whole};
 
 pub mod lent;
 
@@ -17,7 +17,6 @@ impl<R: Copy, const N: usize> Rows<R, N> {
     pub fn empty(blank: R) -> Self
         ensures none { rows result ≡ [] }
         ensures whole { Whole result }
-        ensures clear { Clear blank result }
     {
         Rows {
             cells: [blank; N],
@@ -58,7 +57,6 @@ impl<R: Copy, const N: usize> Rows<R, N> {
         requires within { i < length (rows self) }
         ensures records { rows result ≡ slice_set (rows self) i x }
         ensures whole { Whole result }
-        ensures clear { (b : R) → Clear b self → Clear b result }
     {
         let mut cells = self.cells;
         cells[i] = x;
@@ -75,7 +73,6 @@ impl<R: Copy, const N: usize> Rows<R, N> {
         requires within { place ≤ length (rows self) }
         ensures records { rows result ≡ insert (rows self) place x }
         ensures whole { Whole result }
-        ensures clear { (b : R) → Clear b self → Clear b result }
     {
         let mut cells = self.cells;
         let mut carried = x;
@@ -91,20 +88,20 @@ impl<R: Copy, const N: usize> Rows<R, N> {
         }
     }
 
-    /// The table without the record at `place`; `blank` fills the cell that falls free.
-    pub(crate) fn remove_at(self, place: usize, blank: R) -> Self
+    /// The table without the record at `place`.
+    pub(crate) fn remove_at(self, place: usize) -> Self
         requires whole { Whole self }
         requires within { place < length (rows self) }
         ensures records { rows result ≡ remove (rows self) place }
         ensures whole { Whole result }
-        ensures clear { Clear blank self → Clear blank result }
     {
-        let last = self.count - 1;
         let mut cells = self.cells;
-        for i in place..last {
+        for i in place..self.count - 1 {
             cells[i] = cells[i + 1];
         }
-        cells[last] = blank;
-        Rows { cells, count: last }
+        Rows {
+            cells,
+            count: self.count - 1,
+        }
     }
 }

@@ -2,11 +2,10 @@
 ghost use Rattle.std.specs.Prelude.{◌≡◌, ◌≤◌, [], length, sum_by};
 ghost use Rattle.tables.specs.Keys.{found};
 ghost use Rattle.records.specs.Level.{height_of, weight_of};
-ghost use Rattle.records.specs.Levels.{listed, Determined};
+ghost use Rattle.records.specs.Levels.{listed};
 
 use crate::level::Level;
 use crate::levels::Levels;
-use tables::keyed::Keyed;
 use tables::rows::Rows;
 
 impl Levels {
@@ -14,8 +13,13 @@ impl Levels {
     pub fn new() -> Levels
         ensures { listed result ≡ [] }
     {
+        let blank = Level {
+            height: 0,
+            weight: 0,
+            gravity: 0,
+        };
         Levels {
-            rows: Rows::empty(Level::blank()),
+            rows: Rows::empty(blank),
         }
     }
 
@@ -34,10 +38,9 @@ impl Levels {
         self.rows.as_slice()
     }
 
-    /// The level at a height, if there is one. A table that finds the same at every height is the same table.
+    /// The level at a height, if there is one.
     pub fn find(&self, height: u32) -> Option<Level>
-        ensures value { result ≡ found height_of (listed self.now) height }
-        ensures determined { Determined self.now }
+        ensures { result ≡ found height_of (listed self.now) height }
     {
         self.rows.find(height)
     }

@@ -2,11 +2,10 @@
 ghost use Rattle.std.specs.Prelude.{◌≡◌, ◌≤◌, [], length};
 ghost use Rattle.tables.specs.Keys.{found};
 ghost use Rattle.records.specs.Wall.{position_of};
-ghost use Rattle.records.specs.Walls.{listed, Determined};
+ghost use Rattle.records.specs.Walls.{listed};
 
 use crate::wall::Wall;
 use crate::walls::Walls;
-use tables::keyed::Keyed;
 use tables::rows::Rows;
 
 impl Walls {
@@ -14,8 +13,12 @@ impl Walls {
     pub fn new() -> Walls
         ensures { listed result ≡ [] }
     {
+        let blank = Wall {
+            position: 0,
+            rigidity: 0,
+        };
         Walls {
-            rows: Rows::empty(Wall::blank()),
+            rows: Rows::empty(blank),
         }
     }
 
@@ -34,10 +37,9 @@ impl Walls {
         self.rows.as_slice()
     }
 
-    /// The wall at a position, if there is one. A table that finds the same at every position is the same table.
+    /// The wall at a position, if there is one.
     pub fn find(&self, position: u32) -> Option<Wall>
-        ensures value { result ≡ found position_of (listed self.now) position }
-        ensures determined { Determined self.now }
+        ensures { result ≡ found position_of (listed self.now) position }
     {
         self.rows.find(position)
     }

@@ -1,6 +1,6 @@
 -- The listing or the fault stands at the front of the buffer.
 use Rattle.std.proofs.Common.{drop, ap, ◌∙◌, arith, rules}
-use Rattle.bytes.proofs.Writing.{puts_within, puts_kept}
+use Rattle.text_bytes.proofs.Writing.{puts_within, puts_kept}
 use Rattle.decks.proofs.answer.answer.Goals as goal
 
 pub returns-in-Ok : goal.returns-in-Ok

@@ -2,7 +2,7 @@
 use Rattle.std.proofs.Common.{◌≡◌, ℕ, ◌-◌, take, replicate, refl, subst, arith}
 use Rattle.std.proofs.lemmas.List.{length-replicate}
 use Rattle.std.proofs.lemmas.Result.{err_from_is_err_and}
-use Rattle.bytes.specs.Wrote.{Puts}
+use Rattle.text_bytes.specs.Wrote.{Puts}
 use Rattle.sheets.specs.Sheet.{no_line}
 use Rattle.decks.specs.Listing.{listing}
 use Rattle.decks.proofs.Outcome.{under_refused, under_fault, under_drawn}
@@ -10,7 +10,7 @@ use Rattle.decks.proofs.answer.list_under.Goals as goal
 
 pub returns-in_err-line : goal.returns-in_err-line
 returns-in_err-line g c =
-    let p = err_from_is_err_and c.from-residual.result c.from-residual.ensures.1 in
+    let p = err_from_is_err_and c.from_residual.result c.from_residual.ensures.1 in
     let h = c.in_err-line.ensures in
     rw (p.1, p.2) (
       under_refused g.E.Edition.needs g.E.Edition.meaning c.args.edition c.args.deck.now (record { job = c.new.result }) c.read_entries.new.taker h.0

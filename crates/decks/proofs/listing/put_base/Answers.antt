@@ -1,6 +1,6 @@
 -- The word and a 0, and then two fields.
 use Rattle.std.proofs.Common.{arith}
-use Rattle.bytes.proofs.Writing.{puts_more}
+use Rattle.text_bytes.proofs.Writing.{puts_more}
 use Rattle.decks.specs.Listing.{base_bytes}
 use Rattle.decks.proofs.listing.put_base.Goals as goal
 

@@ -1,7 +1,7 @@
 -- The word, and then four fields.
 use Rattle.std.proofs.Common.{ℕ, subst, arith}
-use Rattle.bytes.specs.Wrote.{Puts, field}
-use Rattle.bytes.proofs.Writing.{puts_more}
+use Rattle.text_bytes.specs.Wrote.{Puts, field}
+use Rattle.text_bytes.proofs.Writing.{puts_more}
 use Rattle.decks.specs.Listing.{fault_bytes}
 use Rattle.decks.proofs.listing.put_fault.Goals as goal
 

@@ -1,6 +1,6 @@
 -- Four fields, one after another.
 use Rattle.std.proofs.Common.{arith}
-use Rattle.bytes.proofs.Writing.{puts_more}
+use Rattle.text_bytes.proofs.Writing.{puts_more}
 use Rattle.decks.specs.Listing.{line_bytes}
 use Rattle.decks.proofs.listing.put_line.Goals as goal
 

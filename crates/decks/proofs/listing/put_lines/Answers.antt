@@ -1,8 +1,8 @@
 -- One line more, at each turn.
 use Rattle.std.proofs.Common.{◌≡◌, ℕ, List, take, sym, ap, subst, arith}
 use Rattle.std.proofs.lemmas.List.{take_all}
-use Rattle.bytes.specs.Wrote.{Puts}
-use Rattle.bytes.proofs.Writing.{puts_more, puts_none}
+use Rattle.text_bytes.specs.Wrote.{Puts}
+use Rattle.text_bytes.proofs.Writing.{puts_more, puts_none}
 use Rattle.sheets.specs.Sheet.{no_line}
 use Rattle.decks.specs.Listing.{lines_bytes}
 use Rattle.decks.proofs.Lines.{lines_none, lines_more}

@@ -1,6 +1,6 @@
 -- The lines so far are written.
 use Rattle.std.proofs.Common.{◌+◌, ◌*◌, ◌≤◌, take}
-use Rattle.bytes.specs.Wrote.{Puts}
+use Rattle.text_bytes.specs.Wrote.{Puts}
 use Rattle.decks.specs.Listing.{lines_bytes}
 use Rattle.decks.proofs.listing.put_lines.Given as goal
 

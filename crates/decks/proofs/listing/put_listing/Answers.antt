@@ -1,6 +1,6 @@
 -- The first line, the levels' lines and the base's line.
 use Rattle.std.proofs.Common.{arith}
-use Rattle.bytes.proofs.Writing.{puts_more}
+use Rattle.text_bytes.proofs.Writing.{puts_more}
 use Rattle.decks.specs.Listing.{listing}
 use Rattle.decks.proofs.listing.put_listing.Goals as goal
 

@@ -14,7 +14,7 @@ returns-in_default c =
     elim s as (λ s. w ≡ name_of s → ⊥) [
       | R ↦ r.not-R
       | I ↦ r.not-I
-      | T ↦ r.not_T
+      | T ↦ r.not-T
       | Ta ↦ r.not-TA
       | Cu ↦ r.not-CU
       | Drift ↦ r.not-DRIFT

@@ -16,7 +16,7 @@ returns-in_err-setting c =
     let w = c.args.name.now in
     let f : Fault = c.in_err-setting.field-0.0 in
     let r : Result Setting Fault = Err f in
-    let p = err_from_is_err_and c.from-residual.result c.from-residual.ensures.1 in
+    let p = err_from_is_err_and c.from_residual.result c.from_residual.ensures.1 in
     rw (p.1, p.2) (record {
       named = λ s e. absurd (ok_err s f (sym (named_is w r c.in_err-setting.ensures s e)));
       unnamed = λ none. let is : r ≡ Err unknown = unnamed_is w r c.in_err-setting.ensures none in cc;

@@ -1,7 +1,6 @@
 -- Each turn puts the carried record down and takes up the one that stood there.
 use Rattle.std.proofs.Common.{◌≡◌, ◌∙◌, add-one, arith}
 use Rattle.std.proofs.lemmas.List.{length-set}
-use Rattle.tables.proofs.Cells.{blank_inserted}
 use Rattle.tables.proofs.Lists.{insert_turn, insert_end}
 use Rattle.tables.proofs.Wholes.{whole}
 use Rattle.tables.proofs.rows.Rows.insert_at.Goals as goal
@@ -16,9 +15,7 @@ returns g c =
     let l = c.loop-i in
     let t = c.args.self in
     let e : l.i ≡ t.count = omega arith in
-    let is = rw e at l.invariant.1 in
     record {
-      records = insert_end l.cells t.cells c.args.place t.count l.carried c.args.x (omega arith) (omega arith) is;
-      clear = λ b clear. blank_inserted b _ l.cells t.cells c.args.place t.count l.carried c.args.x (omega arith) (omega arith) (omega arith) is clear;
+      records = insert_end l.cells t.cells c.args.place t.count l.carried c.args.x (omega arith) (omega arith) (rw e at l.invariant.1);
       whole = whole _ (length-set l.cells t.count l.carried ∙ l.invariant.0 ∙ c.requires.whole.0) (omega arith);
     }
