@@ -16,7 +16,7 @@ use Rattle.editions.specs.declared.ratio.Ratio.{Ratio}
 use Rattle.editions.specs.Edition.{Asked, Bounded, Agree}
 use Rattle.editions.specs.Ratios.{◌over◌, AtMost, smaller, larger, up}
 use Rattle.editions.specs.Nehrp2003.{needed, figures, plateau, falling, long_falling, period_term, floor, near_floor, raised, governing, exponent, answers, meaning, Fair, Loaded}
-use Rattle.editions.specs.FractionsLemmas.{at_most_trans, smaller_left, smaller_is, larger_is, larger_left, larger_right, pos_above, up_le, up_pos}
+use Rattle.editions.specs.Fractions.{at_most_trans, smaller_left, smaller_is, larger_is, larger_left, larger_right, pos_above, up_le, up_pos}
 
 -- a fraction with a positive base that is at most 23,040,000
 abbrev Sound : Ratio → Type 0

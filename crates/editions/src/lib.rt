@@ -1,5 +1,6 @@
 //! Code editions: what each answers from the settings, the total weight and the period.
 #![tactic(auto)]
+
 pub mod edition;
 pub mod nehrp2003;
 pub mod period;

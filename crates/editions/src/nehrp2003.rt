@@ -5,7 +5,7 @@ ghost use Rattle.settings.specs.Sets.{Present};
 ghost use Rattle.editions.specs.Nehrp2003.{needed as needed_set, figures, Fair, Loaded, period_term, governing as governing_of, exponent as exponent_of, meaning as meaning_of};
 ghost use Rattle.editions.specs.Ratios.{up, Ceiling};
 ghost use Rattle.editions.specs.Nehrp;
-ghost use borrow.Author.Rules;
+ghost use Rattle.std.proofs.Common.{rules};
 
 use crate::edition::{Answers, Edition};
 use crate::ratio::Ratio;
@@ -129,7 +129,7 @@ impl Edition for Nehrp2003 {
 
     ghost meaning = { λ _. meaning_of };
 
-    ghost basic = { Prim.search Needs.needs };
+    ghost basic = { Prim.search rules };
 
     ghost bounded = { λ e s w t a. Nehrp.bounded s w t a };
 

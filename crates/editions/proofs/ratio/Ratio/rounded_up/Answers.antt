@@ -1,7 +1,7 @@
 -- The quotient, and one more where something is left over.
 use Rattle.std.proofs.Common.{sym, subst}
 use Rattle.editions.specs.Ratios.{Ceiling}
-use Rattle.editions.specs.FractionsLemmas.{up_ceiling}
+use Rattle.editions.specs.Fractions.{up_ceiling}
 use Rattle.editions.proofs.ratio.Ratio.rounded_up.Goals as goal
 
 pub returns : goal.returns
