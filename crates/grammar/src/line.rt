@@ -4,10 +4,10 @@ ghost use Rattle.grammar.specs.Lines.{malformed as malformed_of, misread as misr
 
 use crate::entry::{Entry, Published};
 use crate::word::Word;
+use faults::fault::{Cause, Fault, Layer};
 use text_bytes::cut::cut_at;
 use text_bytes::fields::{Fields, split_line};
 use text_bytes::number::read_number;
-use faults::fault::{Cause, Fault, Layer};
 
 /// A wrong word, position, ending or number of fields.
 pub fn malformed() -> Fault

@@ -53,6 +53,7 @@ impl<E: Edition> Job<E> {
     {
         self.building.drop_level(height)
     }
+
     /// Enters a wall, in place of the one at that position if there is one.
     pub fn enter_wall(&mut self, position: u32, rigidity: u32) -> Result<(), Fault>
         ensures building { WallEntered self.old.building self.new.building position rigidity result }

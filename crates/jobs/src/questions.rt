@@ -27,7 +27,7 @@ impl<E: Edition> Job<E> {
     /// What the edition answers for the job's figures. It refuses a job with no level, then the lowest absent setting that the
     /// edition needs, then a base shear above what a sheet shows.
     pub fn answers(&self) -> Result<Answers, Fault>
-        ensures answer { result ≡ answered (answers_refusal needs (meaning self.now.edition) self.now.building) (answers_of (meaning self.now.edition) self.now.building) }
+        ensures answer { result ≡ answered (answers_refusal E.needs (E.meaning self.now.edition) self.now.building) (answers_of (E.meaning self.now.edition) self.now.building) }
         ensures lawful { IfOk result Lawful }
         ensures some { OnOk result (0 < length (listed self.now.building.levels)) }
     {
@@ -51,9 +51,9 @@ impl<E: Edition> Job<E> {
     /// The job's sheet: its totals, and its lines at the front of `lines`, roof first. It refuses as `answers` does, then the
     /// lowest level whose force cannot be told to within two units, then a list that is too short. A refusal writes nothing.
     pub fn sheet(&self, lines: &mut [Line]) -> Result<Totals, Fault>
-        ensures answer { result ≡ sheet_of needs (meaning self.now.edition) self.now.building (length lines.old) }
-        ensures lines { lines.new ≡ list_after needs (meaning self.now.edition) self.now.building lines.old }
-        ensures laws { IfOk result (λ t. Sound (answers_of (meaning self.now.edition) self.now.building) (listed self.now.building.levels) t (take (length (listed self.now.building.levels)) lines.new)) }
+        ensures answer { result ≡ sheet_of E.needs (E.meaning self.now.edition) self.now.building (length lines.old) }
+        ensures lines { lines.new ≡ list_after E.needs (E.meaning self.now.edition) self.now.building lines.old }
+        ensures laws { IfOk result (λ t. Sound (answers_of (E.meaning self.now.edition) self.now.building) (listed self.now.building.levels) t (take (length (listed self.now.building.levels)) lines.new)) }
     {
         let answers = self.answers()?;
         sheet_of(answers, &self.building.levels, lines)

@@ -3,7 +3,7 @@ use Rattle.std.specs.Prelude.{ℕ, ◌-◌, ◌*◌, ◌<◌, ◌≤◌, List, m
 use Rattle.std.specs.List.{AllByRecursion as All}
 use Rattle.powers.specs.Powers.{Small, height_power}
 use Rattle.records.specs.declared.level.Level.{Level}
-use Rattle.records.specs.Level.{unused}
+use Rattle.records.specs.Level.{level}
 use Rattle.sheets.specs.declared.bearing.Bearing.{Bearing}
 
 -- a level's height and weight are in range
@@ -13,7 +13,7 @@ pub record Ranged (x : Level) : Type 0 where
 
 -- what a list of levels reads as past its end
 abbrev pub blank : Level
-blank = unused
+blank = level 0 0 0
 
 -- levels that have a sheet: at least one, at most 64, in range, and rising strictly
 pub record Standing (levels : List Level) : Type 0 where
