@@ -24,7 +24,7 @@ pub const ROOM: usize = 4_096;
 fn list_under<E: Edition + Drop>(edition: E, deck: &[u8], out: &mut [u8]) -> Result<usize, Refusal>
     requires long { length deck.now ≤ 32768 }
     requires room { 4096 ≤ length out.old }
-    ensures { Listed (Under needs meaning edition deck.now) out.old out.new result }
+    ensures { Listed (Under E.needs E.meaning edition deck.now) out.old out.new result }
 {
     let mut desk = Desk {
         job: Job::new(edition),

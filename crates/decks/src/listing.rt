@@ -3,9 +3,9 @@ ghost use Rattle.std.specs.Prelude.{◌+◌, ◌*◌, ◌≤◌, length};
 ghost use Rattle.text_bytes.specs.Wrote.{Puts};
 ghost use Rattle.decks.specs.Listing.{line_bytes, lines_bytes, base_bytes, listing as listing_bytes, fault_bytes};
 
-use text_bytes::put::{put_bytes, put_long, put_short};
 use grammar::entry::Refusal;
 use sheets::line::{Line, Totals};
+use text_bytes::put::{put_bytes, put_long, put_short};
 
 /// Writes a level's line: height, force, shear and moment.
 fn put_line(out: &mut [u8], at: usize, line: Line) -> usize
