@@ -1,5 +1,6 @@
 //! Reads a deck from standard input and prints its listing, or the line of its fault.
 #![tactic(auto)]
+
 use anyhow::anyhow;
 use decks::answer::{LONGEST, ROOM, answer};
 use std::io;

@@ -33,7 +33,7 @@ pub const DEFLECTIONS: Range = Range {
 
 impl Analysis {
     /// Refuses the force used if it is out of range, then the first deflection that is: centre, left edge, right edge.
-    pub(crate) fn admit(self) -> Result<(), Fault>
+    pub fn admit(self) -> Result<(), Fault>
         ensures refusal { result_err result ≡ figure_refusal self }
         ensures fit { OnOk result (FitAnalysis self) }
     {

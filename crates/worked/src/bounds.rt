@@ -3,8 +3,6 @@ use crate::refusals::refused;
 use editions::nehrp2003::Nehrp2003;
 use jobs::job::Job;
 use records::analysis::Analysis;
-use records::level::Level;
-use records::levels::Levels;
 use records::wall::Wall;
 use std::test::Fail;
 
@@ -132,10 +130,7 @@ const LARGEST: Analysis = Analysis {
 
 #[test]
 fn analyses(rt: HostRuntime) -> Result<(), Fail> {
-    let mut levels = Levels::new();
-    assert!(rt; refused(levels.analyse(1, LARGEST), 5, 1));
-    levels.enter(1, 1, 1)?;
-    levels.analyse(1, LARGEST)?;
+    LARGEST.admit()?;
     for [force, centre, left, right, cause, place] in ANALYSES {
         let analysis = Analysis {
             force,
@@ -143,22 +138,7 @@ fn analyses(rt: HostRuntime) -> Result<(), Fail> {
             left,
             right,
         };
-        assert!(rt; refused(levels.analyse(1, analysis), cause, place));
+        assert!(rt; refused(analysis.admit(), cause, place));
     }
-    levels.enter(1, 2, 3)?;
-    let kept = Level {
-        height: 1,
-        weight: 2,
-        gravity: 3,
-        analysis: Some(LARGEST),
-    };
-    assert!(rt; levels.find(1) == Some(kept));
-    levels.drop_level(1)?;
-    levels.enter(1, 2, 3)?;
-    let fresh = Level {
-        analysis: None,
-        ..kept
-    };
-    assert!(rt; levels.find(1) == Some(fresh));
     Ok(())
 }

@@ -1,0 +1,27 @@
+//! A table of 64 levels is full.
+use editions::nehrp2003::Nehrp2003;
+use faults::fault::{Cause, Fault};
+use jobs::job::Job;
+use std::test::Fail;
+
+/// Whether a call was refused for want of room, at that height.
+fn full(res: Result<(), Fault>, height: u32) -> bool {
+    match res {
+        Ok(()) => false,
+        Err(fault) => fault.cause == Cause::LevelsFull && fault.place == height,
+    }
+}
+
+#[test]
+fn sixty_five_levels(rt: HostRuntime) -> Result<(), Fail> {
+    let mut job = Job::new(Nehrp2003);
+    for height in 1..=64u32 {
+        job.enter_level(height, 1, 1)?;
+    }
+    assert!(rt; full(job.enter_level(65, 1, 1), 65));
+    job.enter_level(64, 2, 2)?;
+    job.drop_level(1)?;
+    job.enter_level(65, 1, 1)?;
+    assert!(rt; full(job.enter_level(1, 1, 1), 1) && job.level_count() == 64);
+    Ok(())
+}
