@@ -1,6 +1,6 @@
 //! The sum of the stakes, and each bearer's part of an amount.
 ghost use Rattle.std.specs.Prelude.{◌≡◌, ◌*◌, ◌<◌, ◌≤◌, map, length, sum};
-ghost use Rattle.std.specs.List.{AllByRecursion as All};
+ghost use Rattle.std.specs.List.{AllByRecursion};
 ghost use Rattle.sharing.specs.Sharing.{limit, Shared};
 
 use crate::bearer::Bearer;
@@ -8,7 +8,7 @@ use crate::bearer::Bearer;
 /// The sum of the bearers' stakes.
 pub fn total_stake<B: Bearer>(bearers: &[B]) -> u64
     requires few { length bearers.now ≤ 64 }
-    requires within { All (λ b. B.Bearer.stake b ≤ B.Bearer.greatest) bearers.now }
+    requires within { AllByRecursion (λ b. B.Bearer.stake b ≤ B.Bearer.greatest) bearers.now }
     ensures sum { result ≡ sum (map B.Bearer.stake bearers.now) }
     ensures most { result ≤ 64 * limit }
 {
@@ -24,7 +24,7 @@ pub fn total_stake<B: Bearer>(bearers: &[B]) -> u64
 pub fn share<B: Bearer>(amount: u32, total: u64, bearers: &[B], shares: &mut [u32])
     requires amount { amount ≤ 1000000 }
     requires few { length bearers.now ≤ 64 }
-    requires within { All (λ b. B.Bearer.stake b ≤ B.Bearer.greatest) bearers.now }
+    requires within { AllByRecursion (λ b. B.Bearer.stake b ≤ B.Bearer.greatest) bearers.now }
     requires total { total ≡ sum (map B.Bearer.stake bearers.now) }
     requires some { 0 < total }
     requires room { length bearers.now ≤ length shares.old }

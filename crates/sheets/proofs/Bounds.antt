@@ -1,6 +1,6 @@
 -- Stakes and shares within bounds.
 use Rattle.std.proofs.Common.{◌≡◌, ℕ, zero, suc, ◌+◌, ◌-◌, ◌*◌, ◌/◌, ◌<◌, ◌≤◌, cond, List, [], ◌∷◌, length, get_or, Some, None, sum_by, refl, ap, ◌∙◌, mul-le-mul_right, add-mul, mul-le-mul, mul-le-mul_left, div-le_self, add-one, arith}
-use Rattle.std.specs.List.{AllByRecursion as All}
+use Rattle.std.specs.List.{AllByRecursion}
 use Rattle.std.proofs.lemmas.List.Sums.{sum_by-cons, get_or-le-sum_by}
 use Rattle.std.proofs.ByRecursion.{sum_by_le, All-get_or, All-weaker}
 use Rattle.std.proofs.lemmas.Nat.{div_below}
@@ -21,18 +21,18 @@ upper_le b h = mul-le-mul {n₂ = 60000} {m₂ = scale} h.weight h.power.top
 pub stake_upper : (b : Bearing) → Borne b → stake b ≤ upper b
 stake_upper b h = mul-le-mul_left b.weight h.power.ordered
 
-pub stakes_within : (bs : List Bearing) → All Borne bs → All (λ b. stake b ≤ limit) bs
+pub stakes_within : (bs : List Bearing) → AllByRecursion Borne bs → AllByRecursion (λ b. stake b ≤ limit) bs
 stakes_within bs h = All-weaker Borne (λ b. stake b ≤ limit) stake_le bs h
 
 pub borne_at : (bs : List Bearing) (k : ℕ) → Falling bs → k < length bs → Borne (get_or bs k ground)
 borne_at bs k f h = All-get_or Borne bs k ground h f.borne
 
 -- sums compare as their terms do
-pub sum_by_mono : {X : Type 0} (f h : X → ℕ) (xs : List X) → All (λ x. f x ≤ h x) xs → sum_by f xs ≤ sum_by h xs
+pub sum_by_mono : {X : Type 0} (f h : X → ℕ) (xs : List X) → AllByRecursion (λ x. f x ≤ h x) xs → sum_by f xs ≤ sum_by h xs
 sum_by_mono f h [] a = omega arith
 sum_by_mono f h (x ∷ xs) a = omega (arith, sum_by-cons f x xs, sum_by-cons h x xs, a.0, sum_by_mono f h xs a.1)
 
-pub least_most : (bs : List Bearing) → All Borne bs → sum_by stake bs ≤ sum_by upper bs
+pub least_most : (bs : List Bearing) → AllByRecursion Borne bs → sum_by stake bs ≤ sum_by upper bs
 least_most bs h = sum_by_mono stake upper bs (All-weaker Borne (λ b. stake b ≤ upper b) stake_upper bs h)
 
 pub most_pos : (bs : List Bearing) → Falling bs → 0 < sum_by upper bs

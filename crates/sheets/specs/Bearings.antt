@@ -1,6 +1,6 @@
 -- The levels as bearers, from the roof down: each with the enclosure of its height power, and its stake.
 use Rattle.std.specs.Prelude.{ℕ, ◌-◌, ◌*◌, ◌<◌, ◌≤◌, List, map, reverse, length, sum_by, slice_index_or}
-use Rattle.std.specs.List.{AllByRecursion as All}
+use Rattle.std.specs.List.{AllByRecursion}
 use Rattle.powers.specs.Powers.{Small, height_power}
 use Rattle.records.specs.declared.level.Level.{Level}
 use Rattle.records.specs.Level.{level}
@@ -19,7 +19,7 @@ blank = level 0 0 0
 pub record Standing (levels : List Level) : Type 0 where
   pub some : 1 ≤ length levels
   pub few : length levels ≤ 64
-  pub ranged : All Ranged levels
+  pub ranged : AllByRecursion Ranged levels
   pub rises : (i j : ℕ) → i < j → j < length levels → (slice_index_or levels i blank).height < (slice_index_or levels j blank).height
 
 -- the roof is the highest level
@@ -57,6 +57,6 @@ pub record Borne (b : Bearing) : Type 0 where
 -- bearers that have a sheet
 pub record Falling (bs : List Bearing) : Type 0 where
   pub few : length bs ≤ 64
-  pub borne : All Borne bs
+  pub borne : AllByRecursion Borne bs
   pub stands : 0 < sum_by stake bs
   pub falls : (i j : ℕ) → i < j → j < length bs → height_at bs j ≤ height_at bs i

@@ -1,6 +1,6 @@
 //! The levels as bearers of the base shear, from the roof down.
 ghost use Rattle.std.specs.Prelude.{◌≡◌, ◌≤◌, length, take, sum_by};
-ghost use Rattle.std.specs.List.{AllByRecursion as All};
+ghost use Rattle.std.specs.List.{AllByRecursion};
 ghost use Rattle.sharing.specs.Sharing.{limit};
 ghost use Rattle.sheets.specs.Bearings.{Standing, Borne, bearings, stake as stake_of, upper as upper_of};
 ghost use Rattle.std.proofs.Common.{rules};
@@ -73,7 +73,7 @@ pub(crate) fn from_roof(levels: &[Level], e: u32) -> [Bearing; 64]
 /// The sum of weight × upper end.
 pub(crate) fn total_upper(bearers: &[Bearing]) -> u64
     requires few { length bearers.now ≤ 64 }
-    requires borne { All Borne bearers.now }
+    requires borne { AllByRecursion Borne bearers.now }
     ensures { result ≡ sum_by upper_of bearers.now }
 {
     let mut total: u64 = 0;
