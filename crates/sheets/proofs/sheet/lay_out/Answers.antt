@@ -1,5 +1,5 @@
 -- The refusals in their order, and else the lines and the totals.
-use Rattle.std.proofs.Common.{ℕ, ◌-◌, List, ◌++◌, length, get_or, drop, Ok, Err, Option, Result, sym, ap, ◌∙◌, arith}
+use Rattle.std.proofs.Common.{ℕ, List, ◌++◌, length, get_or, drop, Ok, Err, Option, Result, sym, ap, ◌∙◌, arith}
 use Rattle.sheets.specs.declared.line.Line.{Line}
 use Rattle.faults.specs.declared.fault.Fault.{Fault}
 use Rattle.sheets.specs.declared.line.Totals.{Totals}

@@ -1,5 +1,5 @@
 -- The bearers of the table's levels are in order and in range, and the lines that are written keep the laws.
-use Rattle.std.proofs.Common.{◌-◌, List, length, sym, refl, ap, ◌∙◌, subst, arith}
+use Rattle.std.proofs.Common.{List, length, sym, refl, ap, ◌∙◌, subst, arith}
 use Rattle.records.specs.Levels.{listed}
 use Rattle.sheets.specs.declared.bearing.Bearing.{Bearing}
 use Rattle.sheets.specs.Bearings.{Standing, Falling, bearings}

@@ -1,5 +1,5 @@
 -- The shear and the moment at the level above, and the lines written so far.
-use Rattle.std.proofs.Common.{◌≡◌, ◌-◌, ◌++◌, map, length, get_or, drop}
+use Rattle.std.proofs.Common.{◌≡◌, ◌++◌, map, length, get_or, drop}
 use Rattle.std.specs.List.{range_with_len}
 use Rattle.sheets.specs.Bearings.{height_at}
 use Rattle.sheets.specs.Sheet.{line_of}
