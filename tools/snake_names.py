@@ -5,7 +5,8 @@ usage: tools/snake_names.py        at the top of the repository, once
 
 A name that a file of specs/ or proofs/ declares, or that a `use` line gives by `as`, loses its inner capitals and dashes:
 `heightOf` becomes `height_of`, `lo-top` stays, since only a lemma or a definition is turned and not a local name. Types, facts and
-modules keep their capitals, goals keep the names that the check gives them, and the code, its texts and its comments keep theirs.
+modules keep their capitals, goals keep the names that the check gives them, and lines of comment stay. In a .rt file only words with a
+capital after a small letter or with a dash are turned, which no name of the code is.
 A new name that stands in a file already is printed, to be looked at.
 """
 

@@ -1,7 +1,6 @@
 //! Decks and what they are told, byte for byte.
 use decks::answer::{ROOM, answer};
 use faults::fault::{Cause, Layer};
-use std::process::Abort;
 use std::test::Fail;
 
 /// The first job, its listing, and the same settings over levels whose forces cannot be told and over levels too heavy for a sheet.
@@ -83,25 +82,29 @@ fn tells(deck: &str, told: &str) -> bool {
     &out[0..written] == told.as_bytes()
 }
 
-fn tell_all(rt: &impl Abort, cases: &[(&str, &str)]) {
+/// The first deck whose answer is not what stands beside it.
+fn told_otherwise<'a>(cases: &[(&'a str, &'a str)]) -> Option<&'a str> {
     for (deck, told) in cases {
-        assert!(rt; tells(deck, told), "{}", *deck);
+        if !tells(deck, told) {
+            return Some(*deck);
+        }
     }
+    None
 }
 
 #[test]
 fn sheets(rt: HostRuntime) {
-    tell_all(&rt, &SHEETS);
+    assert_eq!(rt; told_otherwise(&SHEETS), None);
 }
 
 #[test]
 fn calls(rt: HostRuntime) {
-    tell_all(&rt, &CALLS);
+    assert_eq!(rt; told_otherwise(&CALLS), None);
 }
 
 #[test]
 fn lines(rt: HostRuntime) {
-    tell_all(&rt, &LINES);
+    assert_eq!(rt; told_otherwise(&LINES), None);
 }
 
 #[test]

@@ -1,5 +1,4 @@
 //! The first job: three levels under NEHRP 2003, and what becomes of it under other periods.
-use editions::edition::Edition;
 use editions::nehrp2003::Nehrp2003;
 use faults::fault::{Cause, Fault};
 use jobs::job::Job;
