@@ -1,6 +1,8 @@
 -- What a deck's lines come to, from what the calls on its job answered.
-use Rattle.std.proofs.Common.{◌≡◌, ℕ, List, ◌++◌, length, take, drop, Some, None, Ok, Err, Option, sym, refl, ap, ◌∙◌, arith}
+use Rattle.std.proofs.Common.{◌≡◌, ℕ, List, ◌++◌, length, take, drop, Some, None, Ok, Err, Option, Result, MatchResult, sym, refl, ap, ◌∙◌, subst, arith}
 use Rattle.std.proofs.lemmas.List.{take_at}
+use Rattle.std.proofs.lemmas.Result.{err_from_is_err_and}
+use Rattle.std.specs.Result.{IsErrAnd}
 use Rattle.editions.specs.declared.edition.Answers.{Answers}
 use Rattle.faults.specs.declared.fault.Fault.{Fault}
 use Rattle.grammar.specs.declared.entry.Entry.{Entry}
@@ -8,7 +10,7 @@ use Rattle.grammar.specs.declared.entry.Refusal.{Refusal}
 use Rattle.grammar.specs.Reading.{on, Handed}
 use Rattle.jobs.specs.declared.building.Building.{Building}
 use Rattle.jobs.specs.Questions.{answers_of, bearers, sheet_refusal, sheet_of, list_after}
-use Rattle.records.specs.Levels.{listed}
+use Rattle.tables.specs.Table.{listed}
 use Rattle.settings.specs.declared.record.Settings.{Settings}
 use Rattle.sheets.specs.declared.line.Line.{Line}
 use Rattle.sheets.specs.declared.line.Totals.{Totals}
@@ -27,6 +29,15 @@ answered_err (Some g) x f e = cc
 answered_ok : {X : Type 0} (o : Option Fault) (x y : X) → Ok y ≡ answered o x → (o ≡ None) × (y ≡ x)
 answered_ok None x y e = (refl, cc)
 answered_ok (Some g) x y e = let z : ◌≡◌ {A = ℕ} 0 1 = cc in absurd (omega arith)
+
+-- what a result was whose error was turned into another
+pub mapped_ok : {T E F : Type 0} (Q : E → F → Type 0) (r : Result T E) (s : Result T F) (t : T) → MatchResult r (λ x. s ≡ Ok x) (λ e. IsErrAnd s (Q e)) → s ≡ Ok t → Ok t ≡ r
+mapped_ok Q (Ok x) s t m e = cc
+mapped_ok Q (Err d) s t m e = let p = err_from_is_err_and s m in cc
+
+pub mapped_err : {T E F : Type 0} (Q : E → F → Type 0) (r : Result T E) (s : Result T F) (f : F) → MatchResult r (λ x. s ≡ Ok x) (λ e. IsErrAnd s (Q e)) → s ≡ Err f → (e : E) × (Err e ≡ r) × Q e f
+mapped_err Q (Ok x) s f m e = absurd (let z : ◌≡◌ {A = ℕ} 0 1 = cc in omega arith)
+mapped_err Q (Err d) s f m e = let p = err_from_is_err_and s m in (d, refl, subst (Q d) (let same : p.0 ≡ f = cc in same) p.2)
 
 module _ (needs : ℕ) (meaning : Settings → ℕ → ℕ → Answers) (b : Building) where
   drawn_err : (f : Fault) → Err f ≡ sheet_of needs meaning b 64 → drawn needs meaning b ≡ Err f

@@ -6,17 +6,16 @@ use Rattle.grammar.specs.declared.entry.Entry.{Entry}
 use Rattle.grammar.specs.declared.entry.Entry.TheVariants.{Set, Level, Drop}
 use Rattle.jobs.specs.declared.building.Building.{Building}
 use Rattle.jobs.specs.Entries.{IsSet, LevelEntered, LevelDropped}
-use Rattle.records.specs.Levels as levels
-use Rattle.records.specs.Walls as walls
 use Rattle.settings.specs.Figures.{entry}
+use Rattle.tables.specs.Table.{listed}
 use Rattle.decks.specs.declared.desk.Desk.{Desk}
 
 -- a job of that edition with no figure
 pub record Blank {E : Type 0} (e : E) (s : Desk E) : Type 0 where
   pub edition : s.job.edition ≡ e
   pub settings : (n : ℕ) → entry s.job.building.settings n ≡ None
-  pub levels : levels.listed s.job.building.levels ≡ []
-  pub walls : walls.listed s.job.building.walls ≡ []
+  pub levels : listed s.job.building.levels ≡ []
+  pub walls : listed s.job.building.walls ≡ []
 
 -- the call that an entry makes, and its result
 abbrev pub Changed : Building → Entry → Result (Unit {0}) Fault → Building → Type 0

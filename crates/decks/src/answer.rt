@@ -24,24 +24,18 @@ pub const ROOM: usize = 4_096;
 fn list_under<E: Edition + Drop>(edition: E, deck: &[u8], out: &mut [u8]) -> Result<usize, Refusal>
     requires long { length deck.now ≤ 32768 }
     requires room { 4096 ≤ length out.old }
-    ensures { Listed (Under E.needs E.meaning edition deck.now) out.old out.new result }
+    ensures { Listed (Under E.NEEDS E.meaning edition deck.now) out.old out.new result }
 {
     let mut desk = Desk {
         job: Job::new(edition),
     };
     let line = read_entries(deck, &mut desk)?;
-    let mut lines = [Line {
-        height: 0,
-        force: 0,
-        low: 0,
-        high: 0,
-        shear: 0,
-        moment: 0,
-    }; 64];
-    let totals = match desk.job.sheet(&mut lines) {
-        Ok(totals) => totals,
-        Err(fault) => return Err(Refusal { fault, line }),
-    };
+    // An array and not a list: by a rule of the project no call allocates, and a sheet goes to the front of its caller's lines.
+    let mut lines = [Line::default(); 64];
+    let totals = desk
+        .job
+        .sheet(&mut lines)
+        .map_err(|fault| Refusal { fault, line })?;
     let count = desk.job.level_count();
     Ok(put_listing(out, totals, &lines[0..count]))
 }
@@ -57,6 +51,7 @@ fn list(deck: &[u8], out: &mut [u8]) -> Result<usize, Refusal>
             line: 0,
         });
     }
+    // One match for the editions and the refusal: after `map_err` and `?` a second one, on the edition, would follow.
     match read_edition(deck) {
         Ok((Published::Nehrp2003, rest)) => list_under(Nehrp2003, rest, out),
         Err(fault) => Err(Refusal { fault, line: 1 }),

@@ -2,7 +2,7 @@
 use Rattle.std.specs.Prelude.{◌≡◌, ℕ, ◌<◌, ◌≤◌}
 use Rattle.settings.specs.declared.record.Settings.{Settings}
 use Rattle.settings.specs.declared.setting.Setting.TheVariants.{T, Ta, Cu, Drift, Edge}
-use Rattle.settings.specs.Figures.{entry, InRange}
+use Rattle.settings.specs.Figures.{entry}
 use Rattle.settings.specs.Ranges.{number_of}
 use Rattle.settings.specs.Sets.{Member, Present}
 use Rattle.editions.specs.declared.edition.Answers.{Answers}
@@ -15,10 +15,9 @@ pub record Basic (m : ℕ) : Type 0 where
   pub drift : Member m (number_of Drift)
   pub edge : Member m (number_of Edge)
 
--- a question that an edition which needs the set m answers: the set is present, and settings, weight and period are in range
+-- a question that an edition which needs the set m answers: the set is present, and weight and period are in range
 pub record Asked (m : ℕ) (s : Settings) (w t : ℕ) : Type 0 where
   pub present : Present m s
-  pub ranged : InRange s
   pub weight : (1 ≤ w) × (w ≤ 3840000)
   pub period : (1 ≤ t) × (t ≤ 20000)
 

@@ -16,17 +16,21 @@ needed = 8191
 abbrev pub figures : Settings → Figures
 figures s = record { r = figure s R; i = figure s I; sds = figure s Sds; sd1 = figure s Sd1; s1 = figure s S1; tl = figure s Tl; cd = figure s Cd; beta = figure s Beta }
 
+-- the fraction a × I × W ÷ (R × k), for the total weight w
+abbrev pub share : Figures → ℕ → ℕ → ℕ → Ratio
+share f w a k = (a * (f.i * w)) over (f.r * k)
+
 -- the terms of the base shear, for the total weight w and the used period t
 module _ (f : Figures) (w t : ℕ) where
   abbrev pub plateau : Ratio
-  plateau = (f.sds * (f.i * w)) over (1000 * f.r)
+  plateau = share f w f.sds 1000
 
   -- the period term up to the long-period transition, and after it
   abbrev pub falling : Ratio
-  falling = (f.sd1 * (f.i * w)) over (f.r * t)
+  falling = share f w f.sd1 t
 
   abbrev pub long_falling : Ratio
-  long_falling = (f.sd1 * f.tl * (f.i * w)) over (f.r * t * t)
+  long_falling = share f w (f.sd1 * f.tl) (t * t)
 
   abbrev pub period_term : Ratio
   period_term = cond (nat_le t f.tl) falling long_falling
@@ -36,7 +40,7 @@ module _ (f : Figures) (w t : ℕ) where
 
   -- the floor near a major fault
   abbrev pub near_floor : Ratio
-  near_floor = (f.s1 * (f.i * w)) over (2000 * f.r)
+  near_floor = share f w f.s1 2000
 
   abbrev pub raised : Ratio
   raised = larger (smaller plateau period_term) floor

@@ -8,7 +8,7 @@ use crate::ratio::Ratio;
 use settings::record::Settings;
 
 /// What an edition answers.
-#[derive(Clone, Copy)]
+#[derive(Clone, Copy, PartialEq, Eq, Debug)]
 pub struct Answers {
     /// The base shear V.
     pub shear: u32,
@@ -22,27 +22,23 @@ pub struct Answers {
     pub stability: u32,
 }
 
-/// An edition of a code. Its needed set and its meaning are ghost members, and its methods answer them.
+/// An edition of a code: its needed set, and its meaning, a ghost member that its method answers.
 pub trait Edition {
     /// The set of the settings that the edition needs, a binary digit for each number.
     const NEEDS: u16;
 
-    ghost needs: { ℕ };
+    ghost NEEDS: { ℕ };
 
     ghost meaning: { Self → Settings → ℕ → ℕ → Answers };
 
-    /// `NEEDS`, by a call that promises what it is.
-    fn needed() -> u16
-        ensures { result ≡ needs };
-
     /// The answers to the settings, the total weight and the used period.
     fn answers(&self, s: &Settings, weight: u32, period: u32) -> Answers
-        requires { Asked needs s.now weight period }
+        requires { Asked NEEDS s.now weight period }
         ensures { result ≡ meaning self.now s.now weight period };
 
-    ghost basic: { Basic needs };
+    ghost basic: { Basic NEEDS };
 
-    ghost bounded: { (e : Self) (s : Settings) (w t : ℕ) → Asked needs s w t → Bounded (meaning e s w t) };
+    ghost bounded: { (e : Self) (s : Settings) (w t : ℕ) → Asked NEEDS s w t → Bounded (meaning e s w t) };
 
-    ghost confined: { (e : Self) (s u : Settings) (w t : ℕ) → Asked needs s w t → Asked needs u w t → Agree needs s u → meaning e s w t ≡ meaning e u w t };
+    ghost confined: { (e : Self) (s u : Settings) (w t : ℕ) → Asked NEEDS s w t → Asked NEEDS u w t → Agree NEEDS s u → meaning e s w t ≡ meaning e u w t };
 }

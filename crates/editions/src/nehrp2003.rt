@@ -1,8 +1,7 @@
 //! NEHRP 2003, edition 1.
-ghost use Rattle.std.specs.Prelude.{◌≡◌};
-ghost use Rattle.settings.specs.Figures.{InRange};
+ghost use Rattle.std.specs.Prelude.{◌≡◌, ◌≤◌};
 ghost use Rattle.settings.specs.Sets.{Present};
-ghost use Rattle.editions.specs.Nehrp2003.{needed as needed_set, figures, Fair, Loaded, period_term, governing as governing_of, exponent as exponent_of, meaning as meaning_of};
+ghost use Rattle.editions.specs.Nehrp2003.{needed as needed_set, figures, Fair, Loaded, share, plateau, period_term, floor, near_floor, governing as governing_of, exponent as exponent_of, meaning as meaning_of};
 ghost use Rattle.editions.specs.Ratios.{up, Ceiling};
 ghost use Rattle.editions.specs.Nehrp;
 ghost use Rattle.std.proofs.Common.{rules};
@@ -13,11 +12,11 @@ use settings::record::Settings;
 use settings::setting::Setting;
 
 /// NEHRP 2003.
-#[derive(Clone, Copy)]
+#[derive(Clone, Copy, PartialEq, Eq, Debug)]
 pub struct Nehrp2003;
 
 /// The figures that the edition reads.
-#[derive(Clone, Copy)]
+#[derive(Clone, Copy, PartialEq, Eq, Debug)]
 pub struct Figures {
     r: u32,
     i: u32,
@@ -31,8 +30,7 @@ pub struct Figures {
 
 impl Figures {
     fn read(s: &Settings) -> Figures
-        requires present { Present needed_set s.now }
-        requires ranged { InRange s.now }
+        requires { Present needed_set s.now }
         ensures value { result ≡ figures s.now }
         ensures fair { Fair result }
     {
@@ -47,65 +45,90 @@ impl Figures {
             beta: s.figure(Setting::Beta),
         }
     }
+}
+
+/// What the base shear is worked from, each part in its ranges.
+#[derive(Clone, Copy, PartialEq, Eq, Debug)]
+struct Demand {
+    figures: Figures,
+    weight: u32,
+    period: u32,
+    ghost fair: { Fair figures },
+    ghost loaded: { Loaded weight period },
+}
+
+impl Demand {
+    /// The fraction `factor` × I × W ÷ (R × `divisor`).
+    fn share(self, factor: u64, divisor: u64) -> Ratio
+        requires factor { factor ≤ 80000000 }
+        requires divisor { divisor ≤ 400000000 }
+        ensures { result ≡ share self.figures self.weight factor divisor }
+    {
+        Ratio {
+            num: factor * (self.figures.i as u64 * self.weight as u64),
+            den: self.figures.r as u64 * divisor,
+        }
+    }
+
+    /// The most that the base shear comes to, however short the period.
+    fn plateau(self) -> Ratio
+        ensures { result ≡ plateau self.figures self.weight self.period }
+    {
+        self.share(self.figures.sds as u64, 1_000)
+    }
 
     /// The part of the base shear that falls with the period, faster once the period is long.
-    fn period_term(self, weight: u32, period: u32) -> Ratio
-        requires fair { Fair self }
-        requires loaded { Loaded weight period }
-        ensures { result ≡ period_term self weight period }
+    fn period_term(self) -> Ratio
+        ensures { result ≡ period_term self.figures self.weight self.period }
     {
-        let r = self.r as u64;
-        let t = period as u64;
-        let iw = self.i as u64 * weight as u64;
-        if period <= self.tl {
-            Ratio {
-                num: self.sd1 as u64 * iw,
-                den: r * t,
-            }
+        let sd1 = self.figures.sd1 as u64;
+        let tl = self.figures.tl as u64;
+        let t = self.period as u64;
+        if self.period <= self.figures.tl {
+            self.share(sd1, t)
         } else {
-            Ratio {
-                num: self.sd1 as u64 * self.tl as u64 * iw,
-                den: r * t * t,
-            }
+            self.share(sd1 * tl, t * t)
         }
+    }
+
+    /// The least that the base shear comes to, a hundredth of the weight.
+    fn floor(self) -> Ratio
+        ensures { result ≡ floor self.figures self.weight self.period }
+    {
+        Ratio {
+            num: self.weight as u64,
+            den: 100,
+        }
+    }
+
+    /// The floor near a major fault.
+    fn near_floor(self) -> Ratio
+        ensures { result ≡ near_floor self.figures self.weight self.period }
+    {
+        self.share(self.figures.s1 as u64, 2_000)
     }
 
     /// The fraction that governs the base shear: the smaller of the plateau and the period term, raised to the floors.
-    fn governing(self, weight: u32, period: u32) -> Ratio
-        requires fair { Fair self }
-        requires loaded { Loaded weight period }
-        ensures { result ≡ governing_of self weight period }
+    fn governing(self) -> Ratio
+        ensures { result ≡ governing_of self.figures self.weight self.period }
     {
-        let r = self.r as u64;
-        let iw = self.i as u64 * weight as u64;
-        let plateau = Ratio {
-            num: self.sds as u64 * iw,
-            den: 1_000 * r,
-        };
-        let floor = Ratio {
-            num: weight as u64,
-            den: 100,
-        };
-        let raised = plateau
-            .smaller(self.period_term(weight, period))
-            .larger(floor);
-        if self.s1 < 600 {
-            return raised;
+        let raised = self
+            .plateau()
+            .smaller(self.period_term())
+            .larger(self.floor());
+        if self.figures.s1 < 600 {
+            raised
+        } else {
+            raised.larger(self.near_floor())
         }
-        raised.larger(Ratio {
-            num: self.s1 as u64 * iw,
-            den: 2_000 * r,
-        })
     }
 
     /// The base shear V: the governing fraction rounded up, once.
-    fn base_shear(self, weight: u32, period: u32) -> u32
-        requires fair { Fair self }
-        requires loaded { Loaded weight period }
-        ensures value { result ≡ up (governing_of self weight period) }
-        ensures ceiling { Ceiling (governing_of self weight period) result }
+    fn base_shear(self) -> u32
+        ensures value { result ≡ up (governing_of self.figures self.weight self.period) }
+        ensures ceiling { Ceiling (governing_of self.figures self.weight self.period) result }
     {
-        self.governing(weight, period).rounded_up() as u32
+        self.governing().rounded_up() as u32
     }
 }
 
@@ -125,7 +148,7 @@ pub fn exponent(period: u32) -> u32
 impl Edition for Nehrp2003 {
     const NEEDS: u16 = 0b1_1111_1111_1111;
 
-    ghost needs = { needed_set };
+    ghost NEEDS = { needed_set };
 
     ghost meaning = { λ _. meaning_of };
 
@@ -135,14 +158,15 @@ impl Edition for Nehrp2003 {
 
     ghost confined = { λ e s u w t a b same. Nehrp.confined s u w t same };
 
-    fn needed() -> u16 {
-        Self::NEEDS
-    }
-
     fn answers(&self, s: &Settings, weight: u32, period: u32) -> Answers {
         let f = Figures::read(s);
+        let demand = Demand {
+            figures: f,
+            weight,
+            period,
+        };
         Answers {
-            shear: f.base_shear(weight, period),
+            shear: demand.base_shear(),
             top: 0,
             exponent: exponent(period),
             drift: Ratio {

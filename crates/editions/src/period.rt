@@ -1,6 +1,5 @@
 //! The period that the loads are worked with.
 ghost use Rattle.std.specs.Prelude.{◌≡◌, ◌≤◌};
-ghost use Rattle.settings.specs.Figures.{InRange};
 ghost use Rattle.editions.specs.Period.{Timed, used_period};
 
 use settings::record::Settings;
@@ -8,8 +7,7 @@ use settings::setting::Setting;
 
 /// The smaller of the computed period and the upper limit on it, the whole part of CU × TA ÷ 100.
 pub fn used_period(s: &Settings) -> u32
-    requires timed { Timed s.now }
-    requires ranged { InRange s.now }
+    requires { Timed s.now }
     ensures value { result ≡ used_period s.now }
     ensures least { 1 ≤ result }
     ensures most { result ≤ 20000 }

@@ -2,13 +2,14 @@
 ghost use Rattle.std.specs.Prelude.{◌≡◌, ◌*◌, ◌<◌, nat_le};
 ghost use Rattle.editions.specs.Ratios.{AtMost, smaller as smaller_of, larger as larger_of, up, Ceiling};
 
-/// The fraction `num / den`.
-#[derive(Clone, Copy)]
+/// The fraction `num / den`. `==` compares the parts.
+#[derive(Clone, Copy, PartialEq, Eq, Debug)]
 pub struct Ratio {
     pub num: u64,
     pub den: u64,
 }
 
+// No `Ord`: by cross products the order is not transitive where a fraction's base is 0, and a derived one would compare the pairs.
 impl Ratio {
     /// Whether the fraction is at most another.
     fn at_most(self, other: Ratio) -> bool

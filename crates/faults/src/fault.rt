@@ -73,6 +73,7 @@ pub struct Fault {
     pub layer: Layer,
 }
 
+// A number is what the docs know a layer and a cause by, so it has that name: `u32::from(cause)` would be no plainer.
 impl Layer {
     /// The number that a layer is known by, and no other layer.
     pub fn number(self) -> u32

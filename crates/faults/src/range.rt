@@ -17,7 +17,7 @@ impl Range {
     pub fn holds(self, figure: u32) -> bool
         ensures { result ≡ within self figure }
     {
-        self.least <= figure && figure <= self.greatest
+        (self.least..=self.greatest).contains(&figure)
     }
 
     /// Refuses a figure outside the range, by that cause and place.

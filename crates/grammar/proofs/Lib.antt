@@ -1,2 +1,3 @@
 -- Lemmas on the grammar.
 pub mod Shorter
+pub mod Stepping

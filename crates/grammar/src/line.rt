@@ -1,5 +1,6 @@
 //! Reading one line.
-ghost use Rattle.std.specs.Prelude.{◌≡◌, Some, None, Ok, Err, Option, MatchResult};
+ghost use Rattle.std.specs.Prelude.{◌≡◌, true, false, Some, None, Ok, Err, Option, MatchResult};
+ghost use Rattle.text_bytes.specs.Pieces.{has, before, after};
 ghost use Rattle.grammar.specs.Lines.{malformed as malformed_of, misread as misread_of, number_at, edition_at, edition_in, placed, entry_from, entry_in, edition_line, entry_line, Reads};
 
 use crate::entry::{Entry, Published};
@@ -27,21 +28,15 @@ fn misread(place: u32) -> Fault
 fn number_at(text: &[u8], place: u32) -> Result<u32, Fault>
     ensures { result ≡ number_at place text.now }
 {
-    match read_number(text) {
-        Some(n) => Ok(n),
-        None => Err(misread(place)),
-    }
+    read_number(text).ok_or(misread(place))
 }
 
 /// The edition that a line's field names.
 fn edition_at(text: &[u8], place: u32) -> Result<Published, Fault>
     ensures { result ≡ edition_at place text.now }
 {
-    if number_at(text, place)? == 1 {
-        Ok(Published::Nehrp2003)
-    } else {
-        Err(misread(place))
-    }
+    let number = number_at(text, place)?;
+    Published::try_from(number).map_err(|_| misread(place))
 }
 
 /// The edition that the first line names, without its ending.
@@ -100,39 +95,34 @@ fn entry_in(line: &[u8], last: bool) -> Result<Option<Entry>, Fault>
 {
     let fields = split_line(line);
     match Word::of(fields.word) {
-        Some(word) => {
-            if may_stand(word, last) && fields.count == word.arity() {
-                entry_of(word, fields)
-            } else {
-                Err(malformed())
-            }
+        Some(word) if may_stand(word, last) && fields.count == word.arity() => {
+            entry_of(word, fields)
         }
-        None => Err(malformed()),
+        _ => Err(malformed()),
     }
+}
+
+/// The next line, without its ending, and the lines after it.
+fn next_line(deck: &[u8]) -> Result<(&[u8], &[u8]), Fault>
+    ensures { MatchResult result (λ p. (has 10 deck.now ≡ true) × (p.0.now ≡ before 10 deck.now) × (p.1.now ≡ after 10 deck.now)) (λ f. (has 10 deck.now ≡ false) × (f ≡ malformed_of)) }
+{
+    cut_at(deck, b'\n').ok_or(malformed())
 }
 
 /// The edition of a deck's first line, and the lines after it.
 pub fn read_edition(deck: &[u8]) -> Result<(Published, &[u8]), Fault>
     ensures { MatchResult result (λ p. edition_line deck.now ≡ Ok (p.0, p.1.now)) (λ f. edition_line deck.now ≡ Err f) }
 {
-    match cut_at(deck, b'\n') {
-        Some((line, rest)) => {
-            let edition = edition_in(line)?;
-            Ok((edition, rest))
-        }
-        None => Err(malformed()),
-    }
+    let (line, rest) = next_line(deck)?;
+    let edition = edition_in(line)?;
+    Ok((edition, rest))
 }
 
 /// The entry of the next line, and the lines after it; none where the line is the sheet, which is last.
 pub fn read_entry(deck: &[u8]) -> Result<Option<(Entry, &[u8])>, Fault>
     ensures { MatchResult result (Reads deck.now) (λ f. entry_line deck.now ≡ Err f) }
 {
-    match cut_at(deck, b'\n') {
-        Some((line, rest)) => match entry_in(line, rest.is_empty())? {
-            Some(entry) => Ok(Some((entry, rest))),
-            None => Ok(None),
-        },
-        None => Err(malformed()),
-    }
+    let (line, rest) = next_line(deck)?;
+    let entry = entry_in(line, rest.is_empty())?;
+    Ok(entry.map(|entry| (entry, rest)))
 }

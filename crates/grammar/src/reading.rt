@@ -22,13 +22,11 @@ pub trait Takes {
 fn step<'a, T: Takes>(deck: &'a [u8], taker: &mut T) -> Result<Option<&'a [u8]>, Fault>
     ensures { Steps T.Takes.takes deck.now taker.old result taker.new }
 {
-    match read_entry(deck)? {
-        Some((entry, rest)) => {
-            taker.take(entry)?;
-            Ok(Some(rest))
-        }
-        None => Ok(None),
-    }
+    let Some((entry, rest)) = read_entry(deck)? else {
+        return Ok(None);
+    };
+    taker.take(entry)?;
+    Ok(Some(rest))
 }
 
 /// Hands the entries over, line by line from line 2 on, and answers the line of the sheet.
@@ -38,15 +36,10 @@ pub fn read_entries<T: Takes>(deck: &[u8], taker: &mut T) -> Result<u32, Refusal
 {
     let mut rest = deck;
     let mut line: u32 = 2;
-    'lines: loop {
-        let next = match step(rest, taker) {
-            Ok(next) => next,
-            Err(fault) => return Err(Refusal { fault, line }),
-        };
-        let Some(after) = next else {
-            return Ok(line);
-        };
+    // `for line in 2..` would have to say that its end is never reached
+    'lines: while let Some(after) = step(rest, taker).map_err(|fault| Refusal { fault, line })? {
         rest = after;
         line += 1;
     }
+    Ok(line)
 }

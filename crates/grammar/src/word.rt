@@ -1,11 +1,10 @@
 //! The words of a deck.
-ghost use Rattle.std.specs.Prelude.{◌≡◌};
-ghost use Rattle.grammar.specs.Words.{word_of, arity as arity_of};
-
-use text_bytes::cut::is;
+ghost use Rattle.std.specs.Prelude.{◌≡◌, find};
+ghost use Rattle.std.specs.Str.{bytes_eq};
+ghost use Rattle.grammar.specs.Words.{word_of, spelling as spelling_of, arity as arity_of};
 
 /// The word that a line begins with.
-#[derive(Clone, Copy)]
+#[derive(Clone, Copy, Debug, PartialEq, Eq)]
 pub enum Word {
     Edition,
     Set,
@@ -15,23 +14,39 @@ pub enum Word {
 }
 
 impl Word {
+    const ALL: [Word; 5] = [
+        Word::Edition,
+        Word::Set,
+        Word::Level,
+        Word::Drop,
+        Word::Sheet,
+    ];
+
+    /// How the word is spelt.
+    fn spelling(self) -> &'static [u8]
+        ensures { result.now ≡ spelling_of self }
+    {
+        match self {
+            Word::Edition => b"EDITION",
+            Word::Set => b"SET",
+            Word::Level => b"LEVEL",
+            Word::Drop => b"DROP",
+            Word::Sheet => b"SHEET",
+        }
+    }
+
+    /// Whether a text is the word.
+    fn is(self, text: &[u8]) -> bool
+        ensures { result ≡ bytes_eq text.now (spelling_of self) }
+    {
+        text == self.spelling()
+    }
+
     /// Which word a text is.
     pub fn of(text: &[u8]) -> Option<Word>
         ensures { result ≡ word_of text.now }
     {
-        if is(text, b"EDITION") {
-            Some(Word::Edition)
-        } else if is(text, b"SET") {
-            Some(Word::Set)
-        } else if is(text, b"LEVEL") {
-            Some(Word::Level)
-        } else if is(text, b"DROP") {
-            Some(Word::Drop)
-        } else if is(text, b"SHEET") {
-            Some(Word::Sheet)
-        } else {
-            None
-        }
+        Word::ALL.into_iter().find(|word| word.is(text))
     }
 
     /// How many numbers come after the word.

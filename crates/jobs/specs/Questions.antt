@@ -9,9 +9,9 @@ use Rattle.faults.specs.Numbers.{fault}
 use Rattle.faults.specs.Ranges.{◌or_else◌}
 use Rattle.records.specs.declared.level.Level.{Level}
 use Rattle.records.specs.Level.{weight_of}
-use Rattle.records.specs.Levels.{listed}
 use Rattle.settings.specs.declared.record.Settings.{Settings}
 use Rattle.settings.specs.Sets.{lowest_absent}
+use Rattle.tables.specs.Table.{listed}
 use Rattle.sheets.specs.declared.bearing.Bearing.{Bearing}
 use Rattle.sheets.specs.declared.line.Line.{Line}
 use Rattle.sheets.specs.declared.line.Totals.{Totals}

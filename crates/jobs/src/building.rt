@@ -1,11 +1,11 @@
-//! A building's figures. Every setting that stands is in its range; the tables of levels and walls carry their own order and ranges.
-ghost use Rattle.settings.specs.Figures.{InRange};
+//! A building's figures. Each table and the record of settings carry their own order and ranges.
+ghost use Rattle.std.specs.Prelude.{◌≡◌, ℕ, [], None};
+ghost use Rattle.settings.specs.Figures.{entry};
+ghost use Rattle.tables.specs.Table.{listed};
 
 use records::levels::Levels;
 use records::walls::Walls;
 use settings::record::Settings;
-
-pub mod entries;
 
 /// The figures of one building, for one direction of shaking.
 #[derive(Clone, Copy)]
@@ -13,5 +13,19 @@ pub struct Building {
     pub(crate) settings: Settings,
     pub(crate) levels: Levels,
     pub(crate) walls: Walls,
-    ghost ranged: { InRange settings },
+}
+
+impl Building {
+    /// No figure.
+    pub(crate) fn new() -> Building
+        ensures settings { (n : ℕ) → entry result.settings n ≡ None }
+        ensures levels { listed result.levels ≡ [] }
+        ensures walls { listed result.walls ≡ [] }
+    {
+        Building {
+            settings: Settings::new(),
+            levels: Levels::new(),
+            walls: Walls::new(),
+        }
+    }
 }

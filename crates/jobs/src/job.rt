@@ -1,13 +1,14 @@
-//! A job is opened under one edition and keeps it. Its entries are those of its building.
+//! A job is opened under one edition and keeps it. An entry changes one table of its building, or is refused and changes nothing.
 ghost use Rattle.std.specs.Prelude.{◌≡◌, ℕ, [], None};
-ghost use Rattle.records.specs.Levels.{listed as levels_of};
-ghost use Rattle.records.specs.Walls.{listed as walls_of};
 ghost use Rattle.settings.specs.Figures.{entry};
+ghost use Rattle.tables.specs.Table.{listed};
 ghost use Rattle.jobs.specs.Entries.{IsSet, LevelEntered, LevelDropped, WallEntered, WallDropped};
 
 use crate::building::Building;
 use editions::edition::Edition;
 use faults::fault::Fault;
+use records::level::Level;
+use records::wall::Wall;
 
 /// A building's figures under an edition.
 #[derive(Drop)]
@@ -21,8 +22,8 @@ impl<E: Edition> Job<E> {
     pub fn new(edition: E) -> Job<E>
         ensures edition { result.edition ≡ edition }
         ensures settings { (n : ℕ) → entry result.building.settings n ≡ None }
-        ensures levels { levels_of result.building.levels ≡ [] }
-        ensures walls { walls_of result.building.walls ≡ [] }
+        ensures levels { listed result.building.levels ≡ [] }
+        ensures walls { listed result.building.walls ≡ [] }
     {
         Job {
             edition,
@@ -30,12 +31,13 @@ impl<E: Edition> Job<E> {
         }
     }
 
+    // By number, a rule of the project: decks and calling programs name a setting so, and the call refuses a number that is none's.
     /// Gives the setting with that number a figure.
     pub fn set(&mut self, number: u32, value: u32) -> Result<(), Fault>
         ensures building { IsSet self.old.building self.new.building number value result }
         ensures edition { self.new.edition ≡ self.old.edition }
     {
-        self.building.set(number, value)
+        self.building.settings.set(number, value)
     }
 
     /// Enters a level, or another weight and gravity load for the level at that height.
@@ -43,7 +45,11 @@ impl<E: Edition> Job<E> {
         ensures building { LevelEntered self.old.building self.new.building height weight gravity result }
         ensures edition { self.new.edition ≡ self.old.edition }
     {
-        self.building.enter_level(height, weight, gravity)
+        self.building.levels.enter(Level {
+            height,
+            weight,
+            gravity,
+        })
     }
 
     /// Drops the level at a height.
@@ -51,7 +57,7 @@ impl<E: Edition> Job<E> {
         ensures building { LevelDropped self.old.building self.new.building height result }
         ensures edition { self.new.edition ≡ self.old.edition }
     {
-        self.building.drop_level(height)
+        self.building.levels.strike(height)
     }
 
     /// Enters a wall, in place of the one at that position if there is one.
@@ -59,7 +65,7 @@ impl<E: Edition> Job<E> {
         ensures building { WallEntered self.old.building self.new.building position rigidity result }
         ensures edition { self.new.edition ≡ self.old.edition }
     {
-        self.building.enter_wall(position, rigidity)
+        self.building.walls.enter(Wall { position, rigidity })
     }
 
     /// Drops the wall at a position.
@@ -67,6 +73,6 @@ impl<E: Edition> Job<E> {
         ensures building { WallDropped self.old.building self.new.building position result }
         ensures edition { self.new.edition ≡ self.old.edition }
     {
-        self.building.drop_wall(position)
+        self.building.walls.strike(position)
     }
 }

@@ -29,7 +29,6 @@ fn has_digit(e: u32, place: u32) -> bool
 impl Progress {
     /// Reads a digit: where it is 1, the power takes the root as a factor.
     fn with_digit(self, one: bool) -> Progress
-        requires { (Small self.power) × (Small self.root) }
         ensures { result ≡ taken one self }
     {
         if one {
@@ -44,7 +43,6 @@ impl Progress {
 
     /// Goes on to the next digit, of half the weight, and reads it.
     fn next(self, one: bool) -> Progress
-        requires { (Small self.power) × (Small self.root) }
         ensures { result ≡ taken one (deeper self) }
     {
         let deeper = Progress {
@@ -56,6 +54,7 @@ impl Progress {
 }
 
 /// `height / roof` to the power `1 + e / BASE`.
+#[tactic(auto, using(crate::proofs::Digits::after_more), unfolding(crate::specs::Powers::after))]
 pub fn height_power(height: u32, roof: u32, e: u32) -> Enclosure
     requires above { 1 ≤ height }
     requires under { height ≤ roof }

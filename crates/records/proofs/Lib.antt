@@ -1,3 +1,2 @@
 -- Lemmas on levels.
-pub mod Reloaded
 pub mod Weights

@@ -1,7 +1,9 @@
 -- A level, its figures and their ranges.
-use Rattle.std.specs.Prelude.{◌≡◌, ℕ, Bool, true, ◌&&◌}
+use Rattle.std.specs.Prelude.{ℕ, Bool, ◌&&◌, Option}
+use Rattle.faults.specs.declared.fault.Cause.TheVariants.{HeightRange, WeightRange, GravityRange}
+use Rattle.faults.specs.declared.fault.Fault.{Fault}
 use Rattle.faults.specs.declared.range.Range.{Range}
-use Rattle.faults.specs.Ranges.{◌to◌, within}
+use Rattle.faults.specs.Ranges.{◌to◌, within, outside, ◌or_else◌}
 use Rattle.records.specs.declared.level.Level.{Level}
 
 abbrev pub level : ℕ → ℕ → ℕ → Level
@@ -26,5 +28,9 @@ gravity_loads = 1 to 200000
 abbrev pub fits : Level → Bool
 fits x = within heights x.height && (within weights x.weight && within gravity_loads x.gravity)
 
-abbrev pub Fit : Level → Type 0
-Fit x = fits x ≡ true
+-- the first figure out of range: height, weight, gravity load; the place is the figure
+abbrev pub figure_refusal : Level → Option Fault
+figure_refusal x =
+    outside heights HeightRange x.height x.height
+    or_else (outside weights WeightRange x.weight x.weight
+    or_else outside gravity_loads GravityRange x.gravity x.gravity)

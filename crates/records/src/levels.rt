@@ -1,19 +1,19 @@
-//! The table of levels: heights rise strictly, every figure is in range, and there are at most 64. The type carries it.
-ghost use Rattle.tables.specs.Keys.{Rising, Each};
-ghost use Rattle.tables.specs.Rows.{rows as records, Whole};
-ghost use Rattle.records.specs.Level.{height_of, Fit};
+//! The table of levels: at most 64, by height.
+ghost use Rattle.std.specs.Prelude.{◌≡◌, ◌≤◌, length, sum_by};
+ghost use Rattle.tables.specs.Table.{listed};
+ghost use Rattle.records.specs.Level.{weight_of};
 
 use crate::level::Level;
-use tables::rows::Rows;
-
-pub mod entering;
-pub mod reading;
+use tables::table::Table;
 
 /// The levels of a building, by height.
-#[derive(Clone, Copy)]
-pub struct Levels {
-    rows: Rows<Level, 64>,
-    ghost whole: { Whole rows },
-    ghost rising: { Rising height_of (records rows) },
-    ghost fit: { Each Fit (records rows) },
+pub type Levels = Table<Level, 64>;
+
+/// The sum of the levels' weights.
+pub fn total_weight(levels: &Levels) -> u32
+    ensures sum { result ≡ sum_by weight_of (listed levels.now) }
+    ensures least { length (listed levels.now) ≤ result }
+    ensures most { result ≤ 3840000 }
+{
+    levels.as_slice().iter().map(|level| level.weight).sum()
 }

@@ -1,59 +1,36 @@
--- The mask of what is present grows by one digit a turn, and the lowest digit that is needed and not present.
-use Rattle.std.proofs.Common.{◌≡◌, ℕ, ◌+◌, ◌-◌, ◌*◌, ◌%◌, ◌^◌, ◌<◌, ◌≤◌, min, true, false, cond, is_some, Some, None, Option, sym, refl, ap, ◌∙◌, subst, pow-suc, add-one, arith, lit<, shl_exact, below_more}
-use lib.Bits.{bit_and, bit_or, or_shifted_r}
-use lib.Count.{count_trailing_zeros}
+-- The lowest digit that is needed and not present.
+use Rattle.std.proofs.Common.{◌≡◌, ℕ, ◌-◌, ◌<◌, min, true, is_some, Some, None, Option, bit_and, refl, ap, ◌∙◌, arith}
+use Rattle.std.specs.Int.{bit_at, w16, trailing_zeros}
+use Rattle.std.proofs.lemmas.Nat.Bits.{bit_at-lt, bit_at-zero, bit_at_and, bit_at_not, bit_at-trailing_zeros}
 use Rattle.settings.specs.declared.record.Settings.{Settings}
 use Rattle.settings.specs.Figures.{entry}
-use Rattle.settings.specs.Sets.{bit, flag, has, Present, Least}
-use Rattle.settings.proofs.Digits.{bit_below, bit_past, bit_same, bit_other, bit_of_and, bit_not, none_set, lowest, Low}
+use Rattle.settings.specs.Sets.{flag, has, Present, Least}
 
-abbrev pub Upto : Settings → ℕ → ℕ → Type 0
-Upto s m n = (m < 2 ^ n) × ((k : ℕ) → k < n → bit m k ≡ has s k)
+-- of a digit b that is needed, and the digit d of what is needed and not present: d is 1 only where the figure is absent
+lacks : (o : Option ℕ) (b d : ℕ) → b < 2 → d ≡ min b (1 - flag o) → d ≡ 1 → (b ≡ 1) × (o ≡ None)
+lacks (Some x) b d l e h = absurd (omega arith)
+lacks None b d l e h = (omega arith, refl)
 
-put : (s : Settings) (m n : ℕ) → Upto s m n → has s n ≡ 1 → Upto s (1 * 2 ^ n + m) (n + 1)
-put s m n u e = (
-  rw add-one (omega (arith, pow-suc 2 n, u.0)),
-  below_more (λ k. bit (1 * 2 ^ n + m) k ≡ has s k) n (λ k h. bit_other k n m h ∙ u.1 k h) (bit_same n m u.0 ∙ sym e),
-)
+-- and 0 only where it stands or is not needed
+stands : (o : Option ℕ) (b d : ℕ) → d ≡ min b (1 - flag o) → d ≡ 0 → b ≡ 1 → is_some o ≡ true
+stands (Some x) b d e h k = refl
+stands None b d e h k = absurd (omega arith)
 
-pass : (s : Settings) (m n : ℕ) → Upto s m n → has s n ≡ 0 → Upto s m (n + 1)
-pass s m n u e = (rw add-one (omega (arith, pow-suc 2 n, u.0)), below_more (λ k. bit m k ≡ has s k) n u.1 (bit_past n m u.0 ∙ sym e))
+module _ (s : Settings) (m p : ℕ) (fits : p < 65536) (is : (n : ℕ) → n < 16 → bit_at p n ≡ has s n) where
+  digit : (n : ℕ) → n < 16 → bit_at (bit_and m (65535 - p)) n ≡ min (bit_at m n) (1 - has s n)
+  digit n l = bit_at_and m (65535 - p) n ∙ ap (min (bit_at m n)) (bit_at_not w16 p n fits l ∙ ap (λ x. 1 - x) (is n l))
 
--- one turn of the loop
-pub turn_some : (s : Settings) (m n m' : ℕ) → n < 16 → Upto s m n → true ≡ is_some (entry s n) → m' ≡ bit_or m ((1 * 2 ^ n) % 65536) → Upto s m' (n + 1)
-turn_some s m n m' l u t e =
-    let whole : bit_or m ((1 * 2 ^ n) % 65536) ≡ 1 * 2 ^ n + m = ap (bit_or m) (shl_exact {a = 1} 1 n 16 (lit< tt) (omega arith)) ∙ or_shifted_r 1 n m u.0 in
-    subst (λ (x : ℕ). Upto s x (n + 1)) (sym (e ∙ whole)) (put s m n u (ap (λ b. cond b 1 0) (sym t)))
+  pub all_present : bit_and m (65535 - p) ≡ 0 → Present m s
+  all_present none n l member = stands (entry s n) (bit_at m n) _ (digit n l) (ap (λ x. bit_at x n) none ∙ bit_at-zero n) member
 
-pub turn_none : (s : Settings) (m n m' : ℕ) → Upto s m n → false ≡ is_some (entry s n) → m' ≡ m → Upto s m' (n + 1)
-turn_none s m n m' u t e = subst (λ (x : ℕ). Upto s x (n + 1)) (sym e) (pass s m n u (ap (λ b. cond b 1 0) (sym t)))
-
-has_some : (o : Option ℕ) → flag o ≡ 1 → is_some o ≡ true
-has_some (Some x) e = refl
-has_some None e = absurd (omega (arith, e))
-
-has_none : (o : Option ℕ) → flag o ≡ 0 → o ≡ None
-has_none (Some x) e = absurd (omega (arith, e))
-has_none None e = refl
-
-missing : (s : Settings) (m p : ℕ) → p < 65536 → ((n : ℕ) → n < 16 → bit p n ≡ has s n) → (n : ℕ) → n < 16 → bit (bit_and m (65535 - p)) n ≡ min (bit m n) (1 - has s n)
-missing s m p f h n l = bit_of_and n m (65535 - p) ∙ ap (λ x. min (bit m n) x) (bit_not n 16 p l f ∙ ap (λ x. 1 - x) (h n l))
-
-has_le : (o : Option ℕ) → flag o ≤ 1
-has_le (Some x) = omega arith
-has_le None = omega arith
-
-pub all_present : (s : Settings) (m p : ℕ) → p < 65536 → ((n : ℕ) → n < 16 → bit p n ≡ has s n) → bit_and m (65535 - p) ≡ 0 → Present m s
-all_present s m p f h z n l q =
-    has_some (entry s n) (omega (arith, has_le (entry s n), missing s m p f h n l, ap (λ x. bit x n) z, none_set n))
-
-pub least : (s : Settings) (m p : ℕ) → p < 65536 → ((n : ℕ) → n < 16 → bit p n ≡ has s n) → 0 < bit_and m (65535 - p) → bit_and m (65535 - p) < 65536 → Least s m (count_trailing_zeros 16 (bit_and m (65535 - p)))
-least s m p f h z b =
-    let w : Low 16 (bit_and m (65535 - p)) (count_trailing_zeros 16 (bit_and m (65535 - p))) = lowest 16 (bit_and m (65535 - p)) z b in
-    let t = count_trailing_zeros 16 (bit_and m (65535 - p)) in
-    record {
-      below = w.within;
-      member = omega (arith, w.here, missing s m p f h t w.within, bit_below t m);
-      absent = has_none (entry s t) (omega (arith, has_le (entry s t), w.here, missing s m p f h t w.within, bit_below t m));
-      before = λ k l q. has_some (entry s k) (omega (arith, has_le (entry s k), w.before k l, w.within, missing s m p f h k (omega (arith, w.within))));
-    }
+  pub least : 0 < bit_and m (65535 - p) → bit_and m (65535 - p) < 65536 → Least s m (trailing_zeros w16 (bit_and m (65535 - p)))
+  least some below =
+      let t = trailing_zeros w16 (bit_and m (65535 - p)) in
+      let low = bit_at-trailing_zeros w16 (bit_and m (65535 - p)) some below in
+      let here = lacks (entry s t) (bit_at m t) _ (bit_at-lt m t) (digit t low.0) low.1 in
+      record {
+        below = low.0;
+        member = here.0;
+        absent = here.1;
+        before = λ k l member. stands (entry s k) (bit_at m k) _ (digit k (omega (arith, low.0))) (low.2 k l) member;
+      }

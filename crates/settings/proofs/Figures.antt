@@ -1,54 +1,40 @@
 -- A figure that is taken lies in its range, and once written it leaves every figure in its range.
-use Rattle.std.proofs.Common.{◌≡◌, ℕ, ◌<◌, ◌≤◌, true, eqb, List, length, get_or, set, is_some, Some, None, Option, unwrap_or, sym, refl, ap, ◌∙◌, subst, ⊎_elim, arith}
+use Rattle.std.proofs.Common.{◌≡◌, ℕ, zero, suc, List, [], ◌∷◌, Some, None, Ok, Option, unwrap_or, is_some, true, get_or, set, refl, subst}
+use Rattle.std.specs.List.{slice_get}
+use Rattle.std.specs.Option.{option_map, ok_or}
+use Rattle.std.proofs.lemmas.Option.{slice_get-map}
+use Rattle.faults.specs.declared.fault.Fault.{Fault}
 use Rattle.faults.specs.Ranges.{Within}
-use Rattle.std.specs.Map.{update}
-use Rattle.std.proofs.lemmas.Map.{update_here, update_apart}
-use Rattle.std.proofs.lemmas.List.{get_or-set_same, get_or-set_other, get_or_past, length-set}
-use Rattle.std.proofs.lemmas.Bool.{cases_eq, cases_lt, false≢true}
-use Rattle.settings.specs.declared.record.Settings.{Settings}
-use Rattle.faults.specs.declared.range.Range.{Range}
 use Rattle.settings.specs.declared.setting.Setting.{Setting}
-use Rattle.settings.specs.Ranges.{number_of, range_at}
-use Rattle.settings.specs.Figures.{entry, figure, nothing, Allowed, InRange, written}
+use Rattle.settings.specs.Entries.{nothing, Allowed}
+use Rattle.settings.specs.declared.record.Settings.{Settings}
+use Rattle.settings.specs.Figures.{entry, figure}
+use Rattle.settings.specs.Ranges.{settings, range_of, number_of}
 
--- a figure at n stands there, and leaves the other numbers as they were
-pub put_sets : (xs : List (Option ℕ)) (n v k : ℕ) → n < length xs → get_or (set xs n (Some v)) k None ≡ update eqb (λ (i : ℕ). get_or xs i None) n (Some v) k
-put_sets xs n v k l =
-    ⊎_elim
-    (λ (same : k ≡ n).
-    subst (λ (i : ℕ). get_or (set xs n (Some v)) i None ≡ update eqb (λ (j : ℕ). get_or xs j None) n (Some v) i) (sym same)
-    (get_or-set_same xs n (Some v) None l ∙ sym (update_here (λ (j : ℕ). get_or xs j None) n (Some v))))
-    (λ (other : k ≡ n → ⊥). get_or-set_other xs n k (Some v) None other ∙ sym (update_apart (λ (j : ℕ). get_or xs j None) n (Some v) k other))
-    (cases_eq k n)
+-- a figure in the range of the setting o, if there is one
+named_allowed : (o : Option Setting) (f : Fault) (s : Setting) (v : ℕ) → Ok s ≡ ok_or o f → Within (range_of s) v →
+    Within (unwrap_or (option_map range_of o) nothing) v
+named_allowed None f s v is inside = cc
+named_allowed (Some t) f s v is inside = let e : s ≡ t = cc in subst (λ u. Within (range_of u) v) e inside
 
-none_some : (v : ℕ) → ◌≡◌ {A = Option ℕ} None (Some v) → ⊥
-none_some v e = let z : ◌≡◌ {A = ℕ} 0 1 = cc in omega arith
+-- a figure in the range of the setting with the number n
+pub allowed : (n v : ℕ) (s : Setting) (f : Fault) → Ok s ≡ ok_or (slice_get settings n) f → Within (range_of s) v → Allowed n v
+allowed n v s f is inside = rw (slice_get-map range_of settings n) (named_allowed (slice_get settings n) f s v is inside)
 
--- a figure v that the setting n takes
-module _ (r : Range) (n v : ℕ) (is : Some r ≡ range_at n) (inside : Within r v) where
-  allowed : Allowed n v
-  allowed = subst (λ (o : Option Range). Within (unwrap_or o nothing) v) is inside
+-- what holds of each figure that stands still does once an entry is written of which it holds
+pub kept : (P : ℕ → ℕ → Type 0) (es : List (Option ℕ)) (n : ℕ) (o : Option ℕ) → ((k x : ℕ) → get_or es k None ≡ Some x → P k x) →
+    ((x : ℕ) → o ≡ Some x → P n x) → (k x : ℕ) → get_or (set es n o) k None ≡ Some x → P k x
+kept P [] n o h p k x e = h k x e
+kept P (_ ∷ es) zero o h p zero x e = p x e
+kept P (_ ∷ es) zero o h p (suc k) x e = h (suc k) x e
+kept P (_ ∷ es) (suc n) o h p zero x e = h 0 x e
+kept P (_ ∷ es) (suc n) o h p (suc k) x e = kept (λ i. P (suc i)) es n o (λ i. h (suc i)) p k x e
 
-  -- what then stands at k is the figure v, or what stood there
-  pub written_ranged : (s : Settings) → InRange s → InRange (written s n v)
-  written_ranged s ranged k x stands =
-      ⊎_elim {C = Allowed k x}
-      (λ (same : k ≡ n).
-      let there : entry (written s n v) n ≡ Some x = ap (entry (written s n v)) (sym same) ∙ stands in
-      ⊎_elim {C = Allowed k x}
-      (λ (l : n < length s.entries).
-      let e : Some x ≡ Some v = sym there ∙ get_or-set_same s.entries n (Some v) None l in
-      let i : x ≡ v = cc in
-      rw (same, i) allowed)
-      (λ (l : length s.entries ≤ n). absurd (none_some x (sym (get_or_past (set s.entries n (Some v)) n None (rw length-set l)) ∙ there)))
-      (cases_lt n (length s.entries)))
-      (λ other. ranged k x (sym (get_or-set_other s.entries n k (Some v) None other) ∙ stands))
-      (cases_eq k n)
-
-value_allowed : (n : ℕ) (o : Option ℕ) → is_some o ≡ true → ((v : ℕ) → o ≡ Some v → Allowed n v) → Allowed n (unwrap_or o 0)
-value_allowed n (Some x) e h = h x refl
-value_allowed n None e h = absurd (false≢true e)
+-- a figure that stands is what reading it with a default gives
+stands : (o : Option ℕ) → is_some o ≡ true → o ≡ Some (unwrap_or o 0)
+stands (Some x) e = refl
+stands None e = cc
 
 -- the figure of a setting that has one is in its range
-pub figure_allowed : (s : Settings) (k : Setting) → is_some (entry s (number_of k)) ≡ true → InRange s → Allowed (number_of k) (figure s k)
-figure_allowed s k e h = value_allowed (number_of k) (entry s (number_of k)) e (h (number_of k))
+pub figure_allowed : (s : Settings) (k : Setting) → is_some (entry s (number_of k)) ≡ true → Allowed (number_of k) (figure s k)
+figure_allowed s k e = s.ranged (number_of k) (figure s k) (stands (entry s (number_of k)) e)

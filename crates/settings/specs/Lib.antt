@@ -1,4 +1,5 @@
--- Ranges, names, figures, and sets of settings.
+-- Ranges, names, entries, figures, and sets of settings.
+pub mod Entries
 pub mod Figures
 pub mod Names
 pub mod Ranges

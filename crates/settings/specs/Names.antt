@@ -1,5 +1,6 @@
 -- The names of the settings.
-use Rattle.std.specs.Prelude.{ℕ, cond, List, [], ◌∷◌, Some, None, codes, Option}
+use Rattle.std.specs.Prelude.{ℕ, List, codes, Option}
+use Rattle.std.specs.List.{find}
 use Rattle.std.specs.Str.{bytes_eq}
 use Rattle.faults.specs.declared.fault.Cause.TheVariants.{SettingUnknown}
 use Rattle.faults.specs.declared.fault.Fault.{Fault}
@@ -32,11 +33,6 @@ name_of Zn = codes "ZN"
 abbrev pub unknown : Fault
 unknown = fault Tables SettingUnknown 0
 
--- the first of the settings ss that is called w
-abbrev pub first_called : List Setting → List ℕ → Option Setting
-first_called [] w = None
-first_called (s ∷ ss) w = cond (bytes_eq w (name_of s)) (Some s) (first_called ss w)
-
 -- the setting that is called w, if there is one
 abbrev pub called : List ℕ → Option Setting
-called w = first_called settings w
+called w = find (λ s. bytes_eq w (name_of s)) settings

@@ -1,6 +1,11 @@
 -- The settings in the order of their numbers, the number of each, and the range at each number.
-use Rattle.std.specs.Prelude.{ℕ, ◌<◌, ◌≤◌, List, [], ◌∷◌, Option, MatchOption}
+use Rattle.std.specs.Prelude.{ℕ, ◌<◌, ◌≤◌, List, [], ◌∷◌, map, Option, MatchOption, Result}
 use Rattle.std.specs.List.{slice_get}
+use Rattle.std.specs.Option.{ok_or}
+use Rattle.faults.specs.declared.fault.Cause.TheVariants.{SettingUnknown}
+use Rattle.faults.specs.declared.fault.Fault.{Fault}
+use Rattle.faults.specs.declared.fault.Layer.TheVariants.{Tables}
+use Rattle.faults.specs.Numbers.{fault}
 use Rattle.faults.specs.declared.range.Range.{Range}
 use Rattle.faults.specs.Ranges.{◌to◌}
 use Rattle.settings.specs.declared.setting.Setting.{Setting}
@@ -29,13 +34,35 @@ number_of Ca = 13
 number_of Cv = 14
 number_of Zn = 15
 
+-- a setting's range
+abbrev pub range_of : Setting → Range
+range_of R = 100 to 1000
+range_of I = 100 to 150
+range_of T = 1 to 20000
+range_of Ta = 1 to 20000
+range_of Cu = 100 to 200
+range_of Drift = 1 to 50
+range_of Edge = 0 to 1
+range_of Sds = 1 to 4000
+range_of Sd1 = 1 to 4000
+range_of S1 = 0 to 4000
+range_of Tl = 1000 to 20000
+range_of Cd = 100 to 1000
+range_of Beta = 1 to 100
+range_of Ca = 1 to 2000
+range_of Cv = 1 to 2000
+range_of Zn = 0 to 1000
+
+-- the ranges, and the range at a number
 abbrev pub ranges : List Range
-ranges =
-    (100 to 1000) ∷ (100 to 150) ∷ (1 to 20000) ∷ (1 to 20000) ∷ (100 to 200) ∷ (1 to 50) ∷ (0 to 1) ∷ (1 to 4000) ∷ (1 to 4000) ∷ (0 to 4000)
-    ∷ (1000 to 20000) ∷ (100 to 1000) ∷ (1 to 100) ∷ (1 to 2000) ∷ (1 to 2000) ∷ (0 to 1000) ∷ []
+ranges = map range_of settings
 
 abbrev pub range_at : ℕ → Option Range
 range_at n = slice_get ranges n
+
+-- the setting with the number n, or the fault that there is none
+abbrev pub numbered : ℕ → Result Setting Fault
+numbered n = ok_or (slice_get settings n) (fault Tables SettingUnknown n)
 
 -- some figure lies in the range, and none is above 20,000
 pub record Usable (r : Range) : Type 0 where

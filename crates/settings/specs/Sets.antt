@@ -1,12 +1,8 @@
 -- Sets of settings as numbers of sixteen binary digits, and the least member without a figure.
-use Rattle.std.specs.Prelude.{◌≡◌, ℕ, zero, suc, ◌+◌, ◌/◌, ◌%◌, ◌<◌, Bool, true, cond, not, ◌&&◌, is_some, Some, None, Option, MatchOption, ◌==◌}
+use Rattle.std.specs.Prelude.{◌≡◌, ℕ, zero, suc, ◌+◌, ◌<◌, Bool, true, cond, not, ◌&&◌, is_some, Some, None, Option, MatchOption, ◌==◌}
+use Rattle.std.specs.Int.{bit_at}
 use Rattle.settings.specs.declared.record.Settings.{Settings}
 use Rattle.settings.specs.Figures.{entry}
-
--- the binary digit of weight 2 ^ k
-abbrev pub bit : ℕ → ℕ → ℕ
-bit n zero = n % 2
-bit n (suc k) = bit (n / 2) k
 
 -- 1 where there is a figure, else 0
 abbrev pub flag : Option ℕ → ℕ
@@ -17,7 +13,7 @@ has s n = flag (entry s n)
 
 -- the setting n is in the set m
 abbrev pub Member : ℕ → ℕ → Type 0
-Member m n = bit m n ≡ 1
+Member m n = bit_at m n ≡ 1
 
 -- each setting of the set m has a figure
 abbrev pub Present : ℕ → Settings → Type 0
@@ -36,7 +32,7 @@ Lowest s m r = MatchOption r (Present m s) (Least s m)
 
 -- the setting n is in the set m and has no figure, as a test
 abbrev pub lacking : Settings → ℕ → ℕ → Bool
-lacking s m n = bit m n == 1 && not (is_some (entry s n))
+lacking s m n = bit_at m n == 1 && not (is_some (entry s n))
 
 -- the first such of the k numbers from n on
 unfoldable pub first_absent : Settings → ℕ → ℕ → ℕ → Option ℕ

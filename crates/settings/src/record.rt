@@ -1,19 +1,23 @@
-//! The record of a job's settings: a figure for each that has one. Plain: that the figures are in range is for its owner to keep.
-ghost use Rattle.std.specs.Prelude.{◌≡◌, ℕ, true, is_some, is_ok, if◌then◌else◌, None, MatchResult};
-ghost use Rattle.std.specs.Result.{result_err};
-ghost use Rattle.settings.specs.Figures.{entry, figure as figure_of, Allowed, InRange, written, Sets, refusal};
-ghost use Rattle.settings.specs.Ranges.{number_of};
+//! The record of a job's settings: a figure for each that has one, always in its range.
+ghost use Rattle.settings.specs.Entries.{InRange};
 
-use crate::setting::{Setting, range_of};
-use faults::fault::{Cause, Fault, Layer};
+use crate::setting::Setting;
+use faults::fault::{Cause, Fault};
 
 /// The figure of each setting, by number, or none where it is absent.
-#[derive(Clone, Copy)]
+#[derive(Clone, Copy, PartialEq, Eq, Debug)]
 pub struct Settings {
-    entries: [Option<u32>; 16],
+    pub(crate) entries: [Option<u32>; 16],
+    ghost ranged: { InRange entries },
 }
 
 impl Settings {
+    ghost use Rattle.std.specs.Prelude.{◌≡◌, ℕ, true, is_some, is_ok, if◌then◌else◌, None, MatchResult};
+    ghost use Rattle.std.specs.Result.{result_err};
+    ghost use Rattle.settings.specs.Entries.{Allowed, written};
+    ghost use Rattle.settings.specs.Figures.{entry, figure as figure_of, Sets, refusal};
+    ghost use Rattle.settings.specs.Ranges.{number_of};
+
     /// No setting has a figure.
     pub fn new() -> Settings
         ensures { (n : ℕ) → entry result n ≡ None }
@@ -23,41 +27,32 @@ impl Settings {
         }
     }
 
+    // By number, a rule of the project: decks and calling programs name a setting so, and an unknown number has no figure.
     /// The figure of the setting with that number, if it has one.
     pub fn get(&self, number: u32) -> Option<u32>
         ensures { result ≡ entry self.now number }
     {
-        match self.entries.get(number as usize) {
-            Some(figure) => *figure,
-            None => None,
-        }
+        self.entries.get(number as usize).copied().flatten()
     }
 
     /// Gives the setting with that number a figure, in place of what stood; refuses an unknown number and a figure out of range.
     pub fn set(&mut self, number: u32, value: u32) -> Result<(), Fault>
         ensures refusal { result_err result ≡ refusal number value }
-        ensures after { self.new ≡ (if is_ok result then written self.old number value else self.old) }
+        ensures after { self.new.entries ≡ (if is_ok result then written self.old.entries number value else self.old.entries) }
         ensures sets { MatchResult result (λ _. Sets self.old self.new number value) (λ _. self.new ≡ self.old) }
-        ensures ranged { InRange self.old → InRange self.new }
     {
-        let Some(range) = range_of(number) else {
-            return Err(Fault::new(Layer::Tables, Cause::SettingUnknown, number));
-        };
-        range.admit(value, Cause::SettingRange, number)?;
+        let setting = Setting::try_from(number)?;
+        setting.range().admit(value, Cause::SettingRange, number)?;
         self.entries[number as usize] = Some(value);
         Ok(())
     }
 
     /// The figure of a setting that has one.
     pub fn figure(&self, setting: Setting) -> u32
-        requires present { is_some (entry self.now (number_of setting)) ≡ true }
-        requires ranged { InRange self.now }
+        requires { is_some (entry self.now (number_of setting)) ≡ true }
         ensures value { result ≡ figure_of self.now setting }
         ensures within { Allowed (number_of setting) result }
     {
-        match self.get(setting.number()) {
-            Some(figure) => figure,
-            None => unreachable(),
-        }
+        self.get(setting.number()).unwrap()
     }
 }

@@ -1,8 +1,9 @@
 //! The settings by name and number, and the range of each.
 ghost use Rattle.std.specs.Prelude.{◌≡◌, Some};
 ghost use Rattle.std.specs.List.{slice_get};
-ghost use Rattle.settings.specs.Ranges.{settings, number_of, range_at, Ruled};
+ghost use Rattle.settings.specs.Ranges.{settings, number_of, range_of as range_of_setting, range_at, numbered, Usable, Ruled};
 
+use faults::fault::{Cause, Fault, Layer};
 use faults::range::Range;
 
 /// A setting, by the name that the codes give it; its number is its place in this list.
@@ -43,6 +44,27 @@ pub enum Setting {
 }
 
 impl Setting {
+    /// The settings, by number.
+    const ALL: [Setting; 16] = [
+        Setting::R,
+        Setting::I,
+        Setting::T,
+        Setting::Ta,
+        Setting::Cu,
+        Setting::Drift,
+        Setting::Edge,
+        Setting::Sds,
+        Setting::Sd1,
+        Setting::S1,
+        Setting::Tl,
+        Setting::Cd,
+        Setting::Beta,
+        Setting::Ca,
+        Setting::Cv,
+        Setting::Zn,
+    ];
+
+    // A number is what the docs know a setting by, so it has that name: `u32::from(setting)` would be no plainer.
     /// The setting's number, its place among the settings.
     pub fn number(self) -> u32
         ensures value { result ≡ number_of self }
@@ -50,80 +72,52 @@ impl Setting {
     {
         self as u32
     }
+
+    /// The setting's range.
+    pub fn range(self) -> Range
+        ensures value { result ≡ range_of_setting self }
+        ensures usable { Usable result }
+    {
+        let (least, greatest) = match self {
+            Setting::R => (100, 1_000),
+            Setting::I => (100, 150),
+            Setting::T => (1, 20_000),
+            Setting::Ta => (1, 20_000),
+            Setting::Cu => (100, 200),
+            Setting::Drift => (1, 50),
+            Setting::Edge => (0, 1),
+            Setting::Sds => (1, 4_000),
+            Setting::Sd1 => (1, 4_000),
+            Setting::S1 => (0, 4_000),
+            Setting::Tl => (1_000, 20_000),
+            Setting::Cd => (100, 1_000),
+            Setting::Beta => (1, 100),
+            Setting::Ca => (1, 2_000),
+            Setting::Cv => (1, 2_000),
+            Setting::Zn => (0, 1_000),
+        };
+        Range { least, greatest }
+    }
 }
 
-/// The ranges, by number.
-const RANGES: [Range; 16] = [
-    Range {
-        least: 100,
-        greatest: 1_000,
-    },
-    Range {
-        least: 100,
-        greatest: 150,
-    },
-    Range {
-        least: 1,
-        greatest: 20_000,
-    },
-    Range {
-        least: 1,
-        greatest: 20_000,
-    },
-    Range {
-        least: 100,
-        greatest: 200,
-    },
-    Range {
-        least: 1,
-        greatest: 50,
-    },
-    Range {
-        least: 0,
-        greatest: 1,
-    },
-    Range {
-        least: 1,
-        greatest: 4_000,
-    },
-    Range {
-        least: 1,
-        greatest: 4_000,
-    },
-    Range {
-        least: 0,
-        greatest: 4_000,
-    },
-    Range {
-        least: 1_000,
-        greatest: 20_000,
-    },
-    Range {
-        least: 100,
-        greatest: 1_000,
-    },
-    Range {
-        least: 1,
-        greatest: 100,
-    },
-    Range {
-        least: 1,
-        greatest: 2_000,
-    },
-    Range {
-        least: 1,
-        greatest: 2_000,
-    },
-    Range {
-        least: 0,
-        greatest: 1_000,
-    },
-];
+impl TryFrom<u32> for Setting {
+    type Error = Fault;
+
+    ghost try_from_gives = { λ number r. r ≡ numbered number };
+
+    /// The setting with that number; a number that is no setting's is refused.
+    fn try_from(number: u32) -> Result<Setting, Fault> {
+        Setting::ALL
+            .get(number as usize)
+            .copied()
+            .ok_or(Fault::new(Layer::Tables, Cause::SettingUnknown, number))
+    }
+}
 
 /// The range of the setting with that number, if there is one.
 pub fn range_of(number: u32) -> Option<Range>
     ensures value { result ≡ range_at number }
     ensures rule { Ruled number result }
 {
-    RANGES.get(number as usize).copied()
+    Setting::try_from(number).ok().map(Setting::range)
 }

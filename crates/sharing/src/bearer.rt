@@ -7,17 +7,14 @@ pub trait Bearer {
     /// The greatest stake of the kind.
     const GREATEST: u64;
 
+    ghost GREATEST: { ℕ };
+
     ghost stake: { Self → ℕ };
-
-    ghost greatest: { ℕ };
-
-    /// `GREATEST`, by a call that promises what it is.
-    fn greatest_stake() -> u64
-        ensures { result ≡ greatest };
 
     /// The bearer's stake.
     fn stake(&self) -> u64
-        ensures { result ≡ stake self.now };
+        ensures value { result ≡ stake self.now }
+        ensures most { result ≤ GREATEST };
 
-    ghost bounded: { greatest ≤ limit };
+    ghost bounded: { GREATEST ≤ limit };
 }

@@ -1,28 +1,21 @@
 -- Stakes and shares within bounds.
-use Rattle.std.proofs.Common.{◌≡◌, ℕ, zero, suc, ◌+◌, ◌-◌, ◌*◌, ◌/◌, ◌<◌, ◌≤◌, cond, List, [], ◌∷◌, length, get_or, Some, None, sum_by, refl, ap, ◌∙◌, mul-le-mul_right, add-mul, mul-le-mul, mul-le-mul_left, div-le_self, add-one, arith}
+use Rattle.std.proofs.Common.{ℕ, zero, suc, ◌+◌, ◌*◌, ◌/◌, ◌<◌, ◌≤◌, List, [], ◌∷◌, length, get_or, sum_by, ap, mul-le-mul_right, add-mul, mul-le-mul, mul-le-mul_left, arith}
 use Rattle.std.specs.List.{AllByRecursion}
 use Rattle.std.proofs.lemmas.List.Sums.{sum_by-cons, get_or-le-sum_by}
 use Rattle.std.proofs.ByRecursion.{sum_by_le, All-get_or, All-weaker}
 use Rattle.std.proofs.lemmas.Nat.{div_below}
-use Rattle.std.proofs.lemmas.Bool.{lt-ltb, le-ltb}
 use Rattle.powers.specs.Powers.{scale}
 use Rattle.sharing.specs.Sharing.{limit}
 use Rattle.sheets.specs.declared.bearing.Bearing.{Bearing}
 use Rattle.sheets.specs.declared.portion.Portion.{Portion}
-use Rattle.sheets.specs.Bearings.{Borne, Falling, ground, stake, upper, height_at}
-use Rattle.sheets.specs.Shares.{Ready, low_share, high_share, at_roof, lowest_uncertain}
+use Rattle.sheets.specs.Bearings.{Borne, Falling, ground, stake, upper}
+use Rattle.sheets.specs.Shares.{Ready, low_share, at_roof}
 
 pub stake_le : (b : Bearing) → Borne b → stake b ≤ limit
 stake_le b h = mul-le-mul {n₂ = 60000} {m₂ = scale} h.weight (omega (arith, h.power))
 
-pub upper_le : (b : Bearing) → Borne b → upper b ≤ limit
-upper_le b h = mul-le-mul {n₂ = 60000} {m₂ = scale} h.weight h.power.top
-
 pub stake_upper : (b : Bearing) → Borne b → stake b ≤ upper b
 stake_upper b h = mul-le-mul_left b.weight h.power.ordered
-
-pub stakes_within : (bs : List Bearing) → AllByRecursion Borne bs → AllByRecursion (λ b. stake b ≤ limit) bs
-stakes_within bs h = All-weaker Borne (λ b. stake b ≤ limit) stake_le bs h
 
 pub borne_at : (bs : List Bearing) (k : ℕ) → Falling bs → k < length bs → Borne (get_or bs k ground)
 borne_at bs k f h = All-get_or Borne bs k ground h f.borne
@@ -38,52 +31,21 @@ least_most bs h = sum_by_mono stake upper bs (All-weaker Borne (λ b. stake b �
 pub most_pos : (bs : List Bearing) → Falling bs → 0 < sum_by upper bs
 most_pos bs f = omega (arith, least_most bs f.borne, f.stands)
 
-pub least_le : (bs : List Bearing) → Falling bs → sum_by stake bs ≤ 64 * limit
-least_le bs f = omega (arith, sum_by_le stake limit bs (stakes_within bs f.borne), mul-le-mul_right limit f.few)
+-- a sum of what is within the limit of a stake
+pub sum_within : (f : Bearing → ℕ) → ((b : Bearing) → Borne b → f b ≤ limit) → (bs : List Bearing) → Falling bs → sum_by f bs ≤ 64 * limit
+sum_within f le bs h =
+    omega (arith, sum_by_le f limit bs (All-weaker Borne (λ b. f b ≤ limit) le bs h.borne), mul-le-mul_right limit h.few)
 
 -- a product with the amount
 pub amount_le : (a s : ℕ) → a ≤ 1000000 → s ≤ limit → a * s ≤ 1000000 * limit
 amount_le a s ha hs = mul-le-mul {n₂ = 1000000} {m₂ = limit} ha hs
-
--- one step down to the lowest uncertain level
-pub uncertain_here : (p : Portion) (bs : List Bearing) (k : ℕ) → low_share p (get_or bs k ground) + 2 < high_share p (get_or bs k ground) → lowest_uncertain p bs (k + 1) ≡ Some (height_at bs k)
-unfolding lowest_uncertain
-uncertain_here p bs k h =
-    ap (lowest_uncertain p bs) (add-one k) ∙ ap (λ t. cond t (Some (height_at bs k)) (lowest_uncertain p bs k)) (lt-ltb _ _ h)
-
-pub uncertain_below : (p : Portion) (bs : List Bearing) (k : ℕ) → high_share p (get_or bs k ground) ≤ low_share p (get_or bs k ground) + 2 → lowest_uncertain p bs (k + 1) ≡ lowest_uncertain p bs k
-unfolding lowest_uncertain
-uncertain_below p bs k h =
-    ap (lowest_uncertain p bs) (add-one k) ∙ ap (λ t. cond t (Some (height_at bs k)) (lowest_uncertain p bs k)) (le-ltb _ _ h)
-
-pub uncertain_none : (p : Portion) (bs : List Bearing) → lowest_uncertain p bs 0 ≡ None
-unfolding lowest_uncertain
-uncertain_none p bs = refl
 
 pub ready_most : (p : Portion) (bs : List Bearing) → Ready p bs → 0 < p.most
 ready_most p bs r = omega (arith, most_pos bs r.falling, ap (λ (q : Portion). q.most) r.totals)
 
 pub ready_least : (p : Portion) (bs : List Bearing) → Ready p bs → (0 < p.least) × (p.least ≤ 64 * limit)
 ready_least p bs r =
-    (omega (arith, r.falling.stands, ap (λ (q : Portion). q.least) r.totals), omega (arith, least_le bs r.falling, ap (λ (q : Portion). q.least) r.totals))
-
-pub low_le : (p : Portion) (b : Bearing) → p.amount ≤ 1000000 → Borne b → low_share p b ≤ 1000000 * limit
-low_le p b ha hb = omega (arith, amount_le p.amount (stake b) ha (stake_le b hb), div-le_self (p.amount * stake b) p.most)
-
-pub uncertain_here_down : (p : Portion) (bs : List Bearing) (k l h : ℕ) → 0 < k → l ≡ low_share p (get_or bs (k - 1) ground) → h ≡ high_share p (get_or bs (k - 1) ground) → l + 2 < h →
-    lowest_uncertain p bs k ≡ Some (height_at bs (k - 1))
-uncertain_here_down p bs k l h pos el eh lt =
-    let e : k ≡ (k - 1) + 1 = omega arith in
-    ap (lowest_uncertain p bs) e ∙ uncertain_here p bs (k - 1) (omega arith)
-
-pub uncertain_below_down : (p : Portion) (bs : List Bearing) (k l h : ℕ) → 0 < k → l ≡ low_share p (get_or bs (k - 1) ground) → h ≡ high_share p (get_or bs (k - 1) ground) → h ≤ l + 2 →
-    lowest_uncertain p bs k ≡ lowest_uncertain p bs (k - 1)
-uncertain_below_down p bs k l h pos el eh le =
-    let e : k ≡ (k - 1) + 1 = omega arith in
-    ap (lowest_uncertain p bs) e ∙ uncertain_below p bs (k - 1) (omega arith)
-
-pub uncertain_end : (p : Portion) (bs : List Bearing) (k : ℕ) → k ≤ 0 → lowest_uncertain p bs k ≡ None
-uncertain_end p bs k h = let e : k ≡ 0 = omega arith in ap (lowest_uncertain p bs) e ∙ uncertain_none p bs
+    (omega (arith, r.falling.stands, ap (λ (q : Portion). q.least) r.totals), omega (arith, sum_within stake stake_le bs r.falling, ap (λ (q : Portion). q.least) r.totals))
 
 -- a low is at most the amount
 pub low_amount : (p : Portion) (bs : List Bearing) (k : ℕ) → Ready p bs → k < length bs → low_share p (get_or bs k ground) ≤ 1000000

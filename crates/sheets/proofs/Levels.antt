@@ -1,7 +1,7 @@
 -- The levels from the roof down.
-use Rattle.std.proofs.Common.{◌≡◌, ℕ, ◌+◌, ◌-◌, ◌*◌, ◌<◌, ◌≤◌, List, [], ◌∷◌, ◌++◌, reverse, length, get_or, take, set, sym, ap, ◌∙◌, subst, ⊎_elim, mul-le-mul_right, eq-or-lt_of_le, arith}
+use Rattle.std.proofs.Common.{◌≡◌, ℕ, ◌+◌, ◌-◌, ◌*◌, ◌<◌, ◌≤◌, List, reverse, length, get_or, sym, ap, ◌∙◌, subst, ⊎_elim, mul-le-mul_right, eq-or-lt_of_le, arith}
 use lib.ListN.{length-map}
-use Rattle.std.proofs.lemmas.List.{take_more, take_more_set, take_all, get_or-map, get_or-reverse, length-reverse}
+use Rattle.std.proofs.lemmas.List.{get_or-map, get_or-reverse, length-reverse}
 use Rattle.std.proofs.ByRecursion.{All-get_or, All-from_get_or}
 use Rattle.powers.specs.declared.enclosure.Enclosure.{Enclosure}
 use Rattle.powers.specs.Powers.{height_power}
@@ -14,6 +14,12 @@ use Rattle.sheets.specs.Bearings.{Ranged, Standing, Borne, Falling, blank, groun
 
 pub level_ranged : (levels : List Level) (i : ℕ) → Standing levels → i < length levels → Ranged (get_or levels i blank)
 level_ranged levels i st h = All-get_or Ranged levels i blank h st.ranged
+
+-- the same from the roof down
+pub ranged_down : (levels : List Level) (k : ℕ) (x : Level) → Standing levels → k < length (reverse levels) → x ≡ get_or (reverse levels) k x → Ranged x
+ranged_down levels k x st h e =
+    let l : k < length levels = omega (arith, length-reverse levels) in
+    subst Ranged (sym (e ∙ get_or-reverse levels k x l)) (All-get_or Ranged levels (length levels - 1 - k) x (omega arith) st.ranged)
 
 pub under_roof : (levels : List Level) (i : ℕ) → Standing levels → i < length levels → (get_or levels i blank).height ≤ roof_of levels
 under_roof levels i st h =
@@ -34,21 +40,6 @@ unfolding bearings
 bearing_at e levels k d h =
     let h' : k < length (reverse levels) = rw length-reverse h in
     get_or-map (bearing (roof_of levels) e) (reverse levels) k blank d h' ∙ ap (bearing (roof_of levels) e) (get_or-reverse levels k blank h)
-
-pub from_more : (e : ℕ) (levels : List Level) (row : List Bearing) (k : ℕ) (x : Level) (p : Enclosure) → k < length levels → k < length row →
-    take k row ≡ take k (bearings e levels) → x ≡ get_or levels (length levels - 1 - k) blank → p ≡ height_power (roof_of levels) x.height e →
-    take (k + 1) (set row k (record { height = x.height; weight = x.weight; power = p })) ≡ take (k + 1) (bearings e levels)
-from_more e levels row k x p h hr so ex ep =
-    let b : Bearing = record { height = x.height; weight = x.weight; power = p } in
-    let eb : b ≡ bearing (roof_of levels) e x = ap (λ (q : Enclosure). let r : Bearing = record { height = x.height; weight = x.weight; power = q } in r) ep in
-    let hb : k < length (bearings e levels) = rw length_bearings h in
-    let here : b ≡ get_or (bearings e levels) k ground = eb ∙ ap (bearing (roof_of levels) e) ex ∙ sym (bearing_at e levels k ground h) in
-    take_more_set row k b hr ∙ ap (λ (t : List Bearing). t ++ b ∷ []) so ∙ ap (λ (c : Bearing). take k (bearings e levels) ++ c ∷ []) here ∙ sym (take_more (bearings e levels) k ground hb)
-
-pub from_all : (e : ℕ) (levels : List Level) (row : List Bearing) (k : ℕ) → k ≡ length levels → take k row ≡ take k (bearings e levels) →
-    take (length levels) row ≡ bearings e levels
-from_all e levels row k ek so =
-    subst (λ (n : ℕ). take n row ≡ take n (bearings e levels)) ek so ∙ take_all (length levels) (bearings e levels) (omega (arith, length_bearings e levels))
 
 pub power_small : (roof h e : ℕ) → e ≤ 2048 → 0 < roof → h ≤ roof → Small (height_power roof h e)
 power_small roof h e he r l = sound_small roof h 2048 (2048 + e) (height_power roof h e) r (omega arith) (power_sound roof h e he r l)
@@ -84,8 +75,3 @@ levels_fall e levels he st =
           st.rises (length levels - 1 - j) (length levels - 1 - i) (omega arith) (omega arith) in
           omega (arith, r, ap (λ (b : Bearing). b.height) (bearing_at e levels j ground hj), ap (λ (b : Bearing). b.height) (bearing_at e levels i ground hi));
     }
-
--- the front of the array, as a part of it is lent
-pub front : (e : ℕ) (levels slice : List Level) (n : ℕ) (row : List Bearing) → slice ≡ levels → n ≡ length levels → take (length slice) row ≡ bearings e slice → take (n - 0) row ≡ bearings e levels
-front e levels slice n row same count is =
-    ap (λ (k : ℕ). take k row) (omega (arith, ap length same)) ∙ is ∙ ap (bearings e) same

@@ -4,5 +4,6 @@ pub mod Levels
 pub mod Sharing
 pub mod Sums
 pub mod Tables
+pub mod Walks
 pub mod Whole
 pub mod Writing

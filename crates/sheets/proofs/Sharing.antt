@@ -1,16 +1,16 @@
 -- The forces, by the running law.
-use Rattle.std.proofs.Common.{◌≡◌, ℕ, zero, suc, ◌+◌, ◌-◌, ◌*◌, ◌/◌, ◌<◌, ◌≤◌, List, map, length, get_or, take, set, sum_by, sum, sym, ap, ◌∙◌, add-mul, mul-le-mul_left, mul-zero, mul-div_cancel, add-one, arith}
+use Rattle.std.proofs.Common.{◌≡◌, ℕ, zero, suc, ◌+◌, ◌-◌, ◌*◌, ◌/◌, ◌<◌, ◌≤◌, List, map, length, get_or, take, set, sum_by, sum, sym, refl, ap, ◌∙◌, mul-zero, mul-div_cancel, add-one, arith}
 use native.Mathlib.Nat.{zero-div}
 use lib.ListN.{length-map}
 use Rattle.std.proofs.lemmas.List.{take-map, take_all, get_or-set_same, get_or-set_other}
-use Rattle.std.proofs.lemmas.List.Sums.{sum_by_more, sum_by-take-le, sum-map}
-use Rattle.std.proofs.lemmas.Nat.{div_below}
+use Rattle.std.proofs.lemmas.List.Sums.{sum_by_more, sum-map}
 use Rattle.sharing.specs.Sharing.{Shared}
 use Rattle.sharing.proofs.Laws.{floors}
 use Rattle.sheets.specs.declared.bearing.Bearing.{Bearing}
+use Rattle.sheets.specs.declared.portion.Portion.{Portion}
 use Rattle.sheets.specs.Summed.{summed}
 use Rattle.sheets.specs.Bearings.{ground, stake}
-use Rattle.sheets.specs.Shares.{due, force}
+use Rattle.sheets.specs.Shares.{Ready, due, force}
 use Rattle.sheets.proofs.Sums.{summed_none, summed_more}
 
 pub due_none : (A : ℕ) (bs : List Bearing) → due A bs 0 ≡ 0
@@ -30,13 +30,6 @@ due_step A bs k h = ap (λ (n : ℕ). A * n / sum_by stake bs) (sum_by_more stak
 pub share_least : (A : ℕ) (bs : List Bearing) (k : ℕ) → 0 < sum_by stake bs → k < length bs → A * stake (get_or bs k ground) / sum_by stake bs + due A bs k ≤ due A bs (k + 1)
 unfolding due
 share_least A bs k pos h = omega (arith, due_step A bs k h, floors A (sum_by stake (take k bs)) (stake (get_or bs k ground)) (sum_by stake bs) pos)
-
-pub due_le : (A : ℕ) (bs : List Bearing) (k : ℕ) → 0 < sum_by stake bs → due A bs k ≤ A
-unfolding due
-due_le A bs k pos =
-    let b : due A bs k < A + 1 = div_below (A * sum_by stake (take k bs)) (sum_by stake bs) (A + 1) pos
-    (omega (arith, mul-le-mul_left A (sum_by-take-le stake bs k), add-mul A 1 (sum_by stake bs))) in
-    omega arith
 
 -- what the top k levels got, by the running law
 pub due_shared : (A : ℕ) (bs : List Bearing) (before after : List ℕ) (k : ℕ) → Shared A (map stake bs) before after → k ≤ length bs → sum (take k after) ≡ due A bs k
@@ -79,3 +72,6 @@ forces_whole A top bs n en some pos =
     let e : n ≡ (n - 1) + 1 = omega arith in
     ap (λ (j : ℕ). summed j (force A top bs)) e ∙ forces_upto A top bs (n - 1) pos (omega arith)
     ∙ ap (λ (j : ℕ). due A bs j + top) (sym e ∙ en) ∙ ap (λ (j : ℕ). j + top) (due_all A bs pos)
+
+pub whole_le : (p : Portion) (bs : List Bearing) (top : ℕ) → Ready p bs → 0 < length bs → p.amount + top ≤ 1000000 → summed (length bs) (force p.amount top bs) ≤ 1000000
+whole_le p bs top r some cap = omega (arith, forces_whole p.amount top bs (length bs) refl some r.falling.stands)

@@ -1,7 +1,6 @@
 -- Sums over the places below a number.
-use Rattle.std.proofs.Common.{◌≡◌, ℕ, zero, suc, ◌+◌, ◌-◌, ◌*◌, ◌<◌, ◌≤◌, List, map, length, get_or, take, sum_by, sum, refl, ap, ⊎_elim, add-mul, eq-or-lt_of_le, mul-le-mul_left, zero-mul, mul-add, add-one, arith}
+use Rattle.std.proofs.Common.{◌≡◌, ℕ, zero, suc, ◌+◌, ◌-◌, ◌*◌, ◌<◌, ◌≤◌, map, sum_by, refl, ap, ⊎_elim, add-mul, eq-or-lt_of_le, zero-mul, mul-add, add-one, arith}
 use Rattle.std.specs.List.{range_with_len}
-use Rattle.std.proofs.lemmas.List.Sums.{sum_by_more}
 use Rattle.std.proofs.lemmas.List.FromFn.{sum_by-map-range_with_len_more}
 use Rattle.sheets.specs.Summed.{summed}
 
@@ -26,21 +25,6 @@ longer zero f h a b le above = omega (arith, zero-mul (b - a))
 longer (suc n) f h a b le above =
     let arm : h n - a ≡ (h n - b) + (b - a) = omega (arith, above n (omega arith)) in
     omega (arith, longer n f h a b le (λ i l. above i (omega arith)), ap (λ (x : ℕ). f n * x) arm, mul-add (f n) (h n - b) (b - a), add-mul (summed n f) (f n) (b - a))
-
--- arms of at most m
-pub arms_le : (n : ℕ) (f h : ℕ → ℕ) (m : ℕ) → ((i : ℕ) → i < n → h i ≤ m) → summed n (λ i. f i * h i) ≤ summed n f * m
-unfolding summed
-arms_le zero f h m le = omega arith
-arms_le (suc n) f h m le =
-    omega (arith, arms_le n f h m (λ i l. le i (omega arith)), mul-le-mul_left (f n) (le n (omega arith)), add-mul (summed n f) (f n) m)
-
--- a list's sum, by place
-pub summed_list : (xs : List ℕ) (n : ℕ) → n ≤ length xs → summed n (λ i. get_or xs i 0) ≡ sum (take n xs)
-unfolding summed
-summed_list xs zero h = refl
-summed_list xs (suc n) h =
-    let l : n < length xs = omega arith in
-    omega (arith, summed_list xs n (omega arith), sum_by_more (λ (x : ℕ). x) xs n 0 l, ap (λ (k : ℕ). sum (take k xs)) (add-one n))
 
 -- a sum over a listing of the places
 pub summed_counting : {X : Type 0} (g : X → ℕ) (f : ℕ → X) (n : ℕ) → sum_by g (map f (range_with_len 0 n)) ≡ summed n (λ i. g (f i))

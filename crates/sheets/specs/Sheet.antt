@@ -61,7 +61,7 @@ refusal None n room = cond (nat_lt room n) (Some (fault Sheet ListShort n)) None
 
 -- why there is no sheet
 abbrev pub refused : Answers → List Bearing → ℕ → Option Fault
-refused a bs room = refusal (lowest_uncertain (portion (amount_of a) bs) bs (length bs)) (length bs) room
+refused a bs room = refusal (lowest_uncertain (portion (amount_of a) bs) bs) (length bs) room
 
 abbrev pub totals : Answers → List Bearing → Totals
 totals a bs = record { shear = a.shear; moment = base_moment (force (amount_of a) a.top bs) (height_at bs) (length bs) }

@@ -2,6 +2,8 @@
 #![tactic(auto)]
 
 pub mod bearing;
+mod descent;
+mod layout;
 pub mod line;
 pub mod portion;
 pub mod sheet;

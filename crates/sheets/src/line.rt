@@ -1,7 +1,7 @@
 //! What a sheet says.
 
 /// A sheet's line, for one level.
-#[derive(Clone, Copy)]
+#[derive(Clone, Copy, PartialEq, Eq, Debug, Default)]
 pub struct Line {
     /// The level's height.
     pub height: u32,
@@ -18,7 +18,7 @@ pub struct Line {
 }
 
 /// A sheet's totals.
-#[derive(Clone, Copy)]
+#[derive(Clone, Copy, PartialEq, Eq, Debug, Default)]
 pub struct Totals {
     /// The base shear V.
     pub shear: u32,

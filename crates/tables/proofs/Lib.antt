@@ -2,4 +2,5 @@
 pub mod ByKey
 pub mod Lists
 pub mod Rising
+pub mod Sought
 pub mod Wholes

@@ -1,8 +1,7 @@
 -- A table's count and its cells.
-use Rattle.std.proofs.Common.{◌≡◌, ℕ, ◌≤◌, length, arith}
+use Rattle.std.proofs.Common.{◌≡◌, ℕ, ◌≤◌, List, length, arith}
 use Rattle.std.proofs.lemmas.List.{length-take-le}
-use Rattle.tables.specs.declared.rows.Rows.{Rows}
-use Rattle.tables.specs.Rows.{Whole}
+use Rattle.tables.specs.Cells.{Whole}
 
-pub whole : {R : Type 0} {n : ℕ} (t : Rows R n) → length t.cells ≡ n → t.count ≤ n → Whole t
-whole t e h = (e, h, length-take-le t.count t.cells (omega arith))
+pub whole : {R : Type 0} (n count : ℕ) (cells : List R) → length cells ≡ n → count ≤ n → Whole n cells count
+whole n count cells e h = (e, h, length-take-le count cells (omega arith))

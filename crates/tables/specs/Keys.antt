@@ -36,14 +36,12 @@ module _ {R : Type 0} (key : R → ℕ) where
     pub rising : Rising ys
     pub finds : (q : ℕ) → found ys q ≡ update nat_eq (found xs) k w q
 
-  -- x went into xs, of n records at most: it stands at its key, and every figure is still in range
-  pub record Entered (fit : R → Type 0) (n : ℕ) (xs ys : List R) (x : R) : Type 0 where
+  -- x went into xs, of n records at most: it stands at its key
+  pub record Entered (n : ℕ) (xs ys : List R) (x : R) : Type 0 where
     pub room : Full n xs (key x) → ⊥
-    pub fits : Each fit ys
     pub becomes : Becomes xs ys (key x) (Some x)
 
   -- the record at the key k went out of xs
-  pub record Struck (fit : R → Type 0) (xs ys : List R) (k : ℕ) : Type 0 where
+  pub record Struck (xs ys : List R) (k : ℕ) : Type 0 where
     pub stood : found xs k ≡ None → ⊥
-    pub fits : Each fit ys
     pub becomes : Becomes xs ys k None

@@ -3,3 +3,4 @@
 
 pub mod keyed;
 pub mod rows;
+pub mod table;

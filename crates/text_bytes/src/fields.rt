@@ -7,6 +7,7 @@ use crate::cut::{count, cut_at};
 /// A line's fields: the word, how many come after it, and the first three of those.
 #[derive(Clone, Copy)]
 pub struct Fields<'a> {
+    // Three by name and the count of all: a line may have any number of fields, and by a rule of the project no call allocates a list.
     pub word: &'a [u8],
     pub count: usize,
     pub first: &'a [u8],
@@ -18,13 +19,11 @@ pub struct Fields<'a> {
 fn split_field(text: &[u8]) -> (&[u8], &[u8])
     ensures { (result.0.now ≡ before 32 text.now) × (result.1.now ≡ after 32 text.now) }
 {
-    match cut_at(text, b' ') {
-        Some(parts) => parts,
-        None => (text, &[]),
-    }
+    cut_at(text, b' ').unwrap_or((text, &[]))
 }
 
 /// The fields of a line without its ending.
+#[tactic(auto, using(crate::proofs::Cuts::first_other, crate::proofs::Cuts::next_other))]
 pub fn split_line(line: &[u8]) -> Fields<'_>
     ensures word { result.word.now ≡ before 32 line.now }
     ensures count { result.count ≡ length (others 32 line.now) }

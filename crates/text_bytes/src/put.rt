@@ -1,43 +1,36 @@
-//! Texts and fields written into a buffer. Each call answers where it ended.
-ghost use Rattle.std.specs.Prelude.{◌+◌, ◌≤◌, length};
-ghost use Rattle.text_bytes.specs.Wrote.{Puts, field};
+//! Texts and numbers written into a buffer, one after another.
+ghost use Rattle.std.specs.Prelude.{◌+◌, ◌≤◌, [], ◌∷◌, ◌++◌, length};
+ghost use Rattle.text_bytes.specs.Writing.{Writes};
 
-use crate::number::put_number;
+use itoa::{Buffer, Integer};
 
-/// Writes `text` into `out` from `at` on.
-pub fn put_bytes(out: &mut [u8], at: usize, text: &[u8]) -> usize
-    requires { at + length text.now ≤ length out.old }
-    ensures { Puts out.old at text.now out.new result }
-{
-    let end = at + text.len();
-    out[at..end].copy_from_slice(text);
-    end
+/// A buffer, and where the next text goes in it.
+#[derive(Drop)]
+pub struct Writer<'a> {
+    pub out: &'a mut [u8],
+    pub at: usize,
 }
 
-/// Writes `n` in decimal and then the byte `mark`.
-fn put_field(out: &mut [u8], at: usize, n: u64, mark: u8) -> usize
-    requires { at + length (field n mark) ≤ length out.old }
-    ensures { Puts out.old at (field n mark) out.new result }
-{
-    let last = put_number(out, at, n);
-    out[last] = mark;
-    last + 1
-}
+impl<'a> Writer<'a> {
+    /// Writes `text`.
+    pub fn put_bytes(&mut self, text: &[u8])
+        requires { self.old.at + length text.now ≤ length self.old.out.now }
+        ensures { Writes self.old text.now self.new }
+    {
+        let end = self.at + text.len();
+        self.out[self.at..end].copy_from_slice(text);
+        self.at = end;
+    }
 
-/// Writes a number of 32 bits and a mark, in at most 11 bytes.
-pub fn put_short(out: &mut [u8], at: usize, n: u32, mark: u8) -> usize
-    requires { at + 11 ≤ length out.old }
-    ensures puts { Puts out.old at (field n mark) out.new result }
-    ensures bound { result ≤ at + 11 }
-{
-    put_field(out, at, n as u64, mark)
-}
-
-/// Writes a number of 64 bits and a mark, in at most 21 bytes.
-pub fn put_long(out: &mut [u8], at: usize, n: u64, mark: u8) -> usize
-    requires { at + 21 ≤ length out.old }
-    ensures puts { Puts out.old at (field n mark) out.new result }
-    ensures bound { result ≤ at + 21 }
-{
-    put_field(out, at, n, mark)
+    /// Writes `n` in decimal and then the byte `mark`.
+    pub fn put_number<I: Integer>(&mut self, n: I, mark: u8)
+        requires { self.old.at + (I.MAX_STR_LEN + 1) ≤ length self.old.out.now }
+        ensures writes { Writes self.old (I.text n ++ (mark ∷ [])) self.new }
+        ensures bound { self.new.at ≤ self.old.at + (I.MAX_STR_LEN + 1) }
+    {
+        let mut buffer = Buffer::new();
+        let digits = buffer.format(n).as_bytes();
+        self.put_bytes(digits);
+        self.put_bytes(&[mark]);
+    }
 }

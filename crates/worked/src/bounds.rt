@@ -1,6 +1,7 @@
 //! Every entry at the first figure that it refuses and at the last that it takes.
 use crate::refusals::refused;
 use editions::nehrp2003::Nehrp2003;
+use faults::fault::Fault;
 use jobs::job::Job;
 use records::analysis::Analysis;
 use records::wall::Wall;
@@ -42,6 +43,15 @@ fn settings(rt: HostRuntime) -> Result<(), Fail> {
     Ok(())
 }
 
+/// Whether an entry is taken, where no cause stands beside it, or refused with that cause and place.
+fn taken_or_refused(res: Result<(), Fault>, cause: u32, place: u32) -> bool {
+    if cause == 0 {
+        res.is_ok()
+    } else {
+        refused(res, cause, place)
+    }
+}
+
 /// Levels, each with the cause and the place of its refusal, or 0 where it is taken.
 const LEVELS: [[u32; 5]; 10] = [
     [1, 1, 1, 0, 0],
@@ -60,13 +70,8 @@ const LEVELS: [[u32; 5]; 10] = [
 fn levels(rt: HostRuntime) -> Result<(), Fail> {
     let mut job = Job::new(Nehrp2003);
     for [height, weight, gravity, cause, place] in LEVELS {
-        let result = job.enter_level(height, weight, gravity);
-        let right = if cause == 0 {
-            result.is_ok()
-        } else {
-            refused(result, cause, place)
-        };
-        assert!(rt; right);
+        let res = job.enter_level(height, weight, gravity);
+        assert!(rt; taken_or_refused(res, cause, place));
     }
     assert!(rt; job.level_count() == 2 && job.level(2).is_none());
     assert!(rt; refused(job.drop_level(2), 5, 2));
@@ -89,13 +94,8 @@ const WALLS: [[u32; 4]; 6] = [
 fn walls(rt: HostRuntime) -> Result<(), Fail> {
     let mut job = Job::new(Nehrp2003);
     for [position, rigidity, cause, place] in WALLS {
-        let result = job.enter_wall(position, rigidity);
-        let right = if cause == 0 {
-            result.is_ok()
-        } else {
-            refused(result, cause, place)
-        };
-        assert!(rt; right);
+        let res = job.enter_wall(position, rigidity);
+        assert!(rt; taken_or_refused(res, cause, place));
     }
     job.enter_wall(0, 7)?;
     assert!(rt;

@@ -84,12 +84,10 @@ fn tells(deck: &str, told: &str) -> bool {
 
 /// The first deck whose answer is not what stands beside it.
 fn told_otherwise<'a>(cases: &[(&'a str, &'a str)]) -> Option<&'a str> {
-    for (deck, told) in cases {
-        if !tells(deck, told) {
-            return Some(*deck);
-        }
-    }
-    None
+    cases
+        .iter()
+        .find(|(deck, told)| !tells(deck, told))
+        .map(|(deck, _)| *deck)
 }
 
 #[test]

@@ -65,8 +65,6 @@ fn refusals_in_order(rt: HostRuntime) -> Result<(), Fail> {
 
 /// Whether the job's answers are refused so.
 fn refused(job: &Job<Nehrp2003>, cause: Cause, place: u32) -> bool {
-    match job.answers() {
-        Ok(_) => false,
-        Err(fault) => fault.cause == cause && fault.place == place,
-    }
+    job.answers()
+        .is_err_and(|fault| fault.cause == cause && fault.place == place)
 }

@@ -1,16 +1,8 @@
 //! A table of 64 levels is full.
+use crate::refusals::refused;
 use editions::nehrp2003::Nehrp2003;
-use faults::fault::{Cause, Fault};
 use jobs::job::Job;
 use std::test::Fail;
-
-/// Whether a call was refused for want of room, at that height.
-fn full(res: Result<(), Fault>, height: u32) -> bool {
-    match res {
-        Ok(()) => false,
-        Err(fault) => fault.cause == Cause::LevelsFull && fault.place == height,
-    }
-}
 
 #[test]
 fn sixty_five_levels(rt: HostRuntime) -> Result<(), Fail> {
@@ -18,10 +10,10 @@ fn sixty_five_levels(rt: HostRuntime) -> Result<(), Fail> {
     for height in 1..=64u32 {
         job.enter_level(height, 1, 1)?;
     }
-    assert!(rt; full(job.enter_level(65, 1, 1), 65));
+    assert!(rt; refused(job.enter_level(65, 1, 1), 4, 65));
     job.enter_level(64, 2, 2)?;
     job.drop_level(1)?;
     job.enter_level(65, 1, 1)?;
-    assert!(rt; full(job.enter_level(1, 1, 1), 1) && job.level_count() == 64);
+    assert!(rt; refused(job.enter_level(1, 1, 1), 4, 1) && job.level_count() == 64);
     Ok(())
 }

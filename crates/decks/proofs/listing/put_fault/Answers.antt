@@ -1,16 +1,18 @@
 -- The word, and then four fields.
-use Rattle.std.proofs.Common.{ℕ, subst, arith}
-use Rattle.text_bytes.specs.Wrote.{Puts, field}
-use Rattle.text_bytes.proofs.Writing.{puts_more}
+use Rattle.std.proofs.Common.{rules}
+use Rattle.text_bytes.specs.Wrote.{field}
+use Rattle.text_bytes.proofs.Writing.{writes_more, written}
 use Rattle.decks.specs.Listing.{fault_bytes}
 use Rattle.decks.proofs.listing.put_fault.Goals as goal
 
 pub returns : goal.returns
-unfolding fault_bytes
+unfolding fault_bytes field
 returns c =
-    let cause = subst (λ (n : ℕ). Puts c.put_bytes-at.new.out c.put_bytes-at.result (field n 32) c.put_short-at.new.out c.put_short-at.result) c.number.ensures.value c.put_short-at.ensures.puts in
-    let layer = subst (λ (n : ℕ). Puts c.put_short-at-2.new.out c.put_short-at-2.result (field n 32) c.put_short-at-3.new.out c.put_short-at-3.result) c.number-2.ensures.value c.put_short-at-3.ensures.puts in
-    puts_more _ _ _ _ _ _ _ _ c.put_bytes-at.ensures
-    (puts_more _ _ _ _ _ _ _ _ cause
-    (puts_more _ _ _ _ _ _ _ _ c.put_short-at-2.ensures.puts
-    (puts_more _ _ _ _ _ _ _ _ layer c.put_short.ensures.puts (omega arith)) (omega arith)) (omega arith)) (omega (arith, c.put_bytes-at.ensures.ends))
+    let cause = rw c.number.ensures.value at c.put_number.ensures.writes in
+    let layer = rw c.number-2.ensures.value at c.put_number-3.ensures.writes in
+    let all =
+    writes_more _ _ _ _ _ c.put_bytes.ensures
+    (writes_more _ _ _ _ _ cause
+    (writes_more _ _ _ _ _ c.put_number-2.ensures.writes
+    (writes_more _ _ _ _ _ layer c.put_number-4.ensures.writes))) in
+    written _ _ _ _ all (search (rules, all.same_buffer))

@@ -1,22 +1,14 @@
--- One stake more, at each turn.
-use Rattle.std.proofs.Common.{◌∙◌, arith}
-use Rattle.sharing.proofs.Laws.{stakes_more, stakes_all, stake_within}
+-- Each call of the closure gives at most the limit of a stake.
+use Rattle.std.proofs.Common.{◌+◌, ◌*◌, refl, arith}
+use Rattle.std.proofs.lemmas.Iterator.{YieldsList-from_slice}
+use Rattle.std.proofs.lemmas.Iterator.Adapters.{fits_from_length, at_most_from_yields_List}
+use Rattle.sharing.specs.Sharing.{limit}
 use Rattle.sharing.proofs.parts.total_stake.Goals as goal
 
-pub overflow_add-total : goal.overflow_add-total
-overflow_add-total g c =
-    let s = stake_within g.B.Bearer.stake _ _ _ _ _ c.requires.within c.loop-bearer-test.true c.bearer-item.is c.stake-total.ensures in
-    omega (arith, c.loop-bearer.invariant.1, c.requires.few, g.met.B.Bearer.bounded)
-
-pub loop-bearer-preserved : goal.loop-bearer-preserved
-loop-bearer-preserved g c =
-    let s = stake_within g.B.Bearer.stake _ _ _ _ _ c.requires.within c.loop-bearer-test.true c.bearer-item.is c.stake-total.ensures in
-    let e = stakes_more g.B.Bearer.stake _ _ _ _ c.loop-bearer-test.true c.bearer-item.is c.stake-total.ensures in
-    (omega (arith, c.loop-bearer.invariant.0), omega (arith, c.loop-bearer.invariant.1, g.met.B.Bearer.bounded), omega arith)
-
-pub returns : goal.returns
-returns g c =
-    record {
-      sum = c.loop-bearer.invariant.0 ∙ stakes_all g.B.Bearer.stake c.args.bearers.now c.loop-bearer.bearer-index c.loop-bearer-test.false;
-      most = omega (arith, c.loop-bearer.invariant.1, c.requires.few);
-    }
+pub returns-clause-most : goal.returns-clause-most
+returns-clause-most g c =
+    let few = at_most_from_yields_List (YieldsList-from_slice {s = c.map.result.iter} c.args.bearers.now cc) c.requires.few in
+    let fits = fits_from_length {s = c.map.result} _ _ 64 (64 * limit + 1) few c.map.ensures.closure (omega arith) (λ x r q k. (refl, omega (arith, k, g.met.B.Bearer.bounded))) in
+    let run = c.sum.ensures.runs tt in
+    let b = fits run.0 run.0.seen run.1 in
+    omega (arith, run.3)

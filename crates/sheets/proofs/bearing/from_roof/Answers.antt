@@ -1,24 +1,27 @@
--- Each turn puts one level more in its place; a level of the table is not above the roof.
-use Rattle.std.proofs.Common.{◌-◌, ◌<◌, length, refl, ◌∙◌, arith}
-use Rattle.std.proofs.lemmas.List.{length-set}
-use Rattle.sheets.proofs.Levels.{level_ranged, under_roof, from_more, from_all}
+-- The levels come from the roof down, and none is above the roof.
+use Rattle.std.proofs.Common.{map, length, ap, ◌∙◌, arith}
+use lib.ListN.{length-map}
+use Rattle.std.proofs.lemmas.Iterator.Adapters.{YieldsList-from_rev_slice}
+use Rattle.std.proofs.lemmas.Iterator.Consumers.{YieldsList-turn, YieldsList-end}
+use Rattle.std.proofs.lemmas.List.{length-reverse}
+use Rattle.records.specs.declared.level.Level.{Level}
+use Rattle.sheets.specs.Bearings.{bearing, bearings, roof_of}
+use Rattle.sheets.proofs.Levels.{ranged_down}
 use Rattle.sheets.proofs.bearing.from_roof.Goals as goal
 
-pub height_power-requires : goal.height_power-requires
-height_power-requires c =
-    let levels = c.args.levels.now in
-    let st = c.requires.standing in
-    let j = length levels - 1 - c.loop-k.k in
-    let h : j < length levels = omega (arith, c.loop-k-test.true) in
-    record { above = (level_ranged levels j st h).height.0; under = under_roof levels j st h; exponent = c.requires.exponent }
+pub push-requires : goal.push-requires
+push-requires c =
+    let t = YieldsList-turn (YieldsList-from_rev_slice c.args.levels.now cc) c.loop-level.yielded _ c.loop-level.yielded_by _ _ c.in-Some.level c.in-Some.is c.next.ensures.steps in
+    (omega arith, omega (arith, t.0, length-reverse {A = Level}, simp length-map at (ap length c.loop-level.invariant), c.requires.standing.few))
 
-pub loop-k-preserved : goal.loop-k-preserved
-loop-k-preserved c = (
-  from_more c.args.e c.args.levels.now c.loop-k.row c.loop-k.k _ c.height_power.result c.loop-k-test.true
-      (omega (arith, c.loop-k-test.true, c.loop-k.invariant.1, c.requires.standing.few)) c.loop-k.invariant.0 refl c.height_power.ensures.value,
-  length-set _ _ _ ∙ c.loop-k.invariant.1,
-)
+pub invariant_of-push : goal.invariant_of-push
+invariant_of-push c =
+    let t = YieldsList-turn (YieldsList-from_rev_slice c.args.levels.now cc) c.loop-level.yielded _ c.loop-level.yielded_by _ _ c.in-Some.level c.in-Some.is c.next.ensures.steps in
+    let r = ranged_down c.args.levels.now _ _ c.requires.standing t.0 t.1 in
+    record { height = r.height.1; weight = r.weight.1; power = c.height_power.ensures.small }
 
 pub returns : goal.returns
+unfolding bearings
 returns c =
-    from_all c.args.e c.args.levels.now c.loop-k.row c.loop-k.k (omega (arith, c.loop-k-test.false, c.loop-k.auto.k-end)) c.loop-k.invariant.0
+    let t = YieldsList-end (YieldsList-from_rev_slice c.args.levels.now cc) c.loop-level.yielded _ c.loop-level.yielded_by _ _ c.in-None.is c.next.ensures.steps in
+    c.loop-level.invariant ∙ ap (map (bearing (roof_of c.args.levels.now) c.args.e)) t.0

@@ -1,7 +1,7 @@
--- The bearers so far are the first ones from the roof down.
-use Rattle.std.proofs.Common.{◌≡◌, length, take}
-use Rattle.sheets.specs.Bearings.{bearings}
+-- The bearers so far are those of the levels so far.
+use Rattle.std.proofs.Common.{◌≡◌, map}
+use Rattle.sheets.specs.Bearings.{bearing, roof_of}
 use Rattle.sheets.proofs.bearing.from_roof.Given as goal
 
-abbrev pub invariant-loop-k : goal.invariant-loop-k
-invariant-loop-k l = (take l.k l.row ≡ take l.k (bearings l.e l.levels)) × (length l.row ≡ 64)
+abbrev pub invariant-loop-level : goal.invariant-loop-level
+invariant-loop-level l = l.row.items ≡ map (bearing (roof_of l.levels) l.e) (map (λ x. x.now) l.yielded)

@@ -1,34 +1,24 @@
--- Each turn reads one digit more.
-use Rattle.std.proofs.Common.{◌≡◌, ◌<◌, false, get_or, Some, None, sym, ◌∙◌, arith, rules}
-use Rattle.text_bytes.specs.Numbers.{digit}
-use Rattle.text_bytes.proofs.Reading.{number_reads}
-use Rattle.text_bytes.proofs.Steps.{small, grows, in_range, step, stop, end, low, high}
+-- Nine digits at most are parsed, and no other word is a number.
+use Rattle.std.proofs.Common.{ℕ, None, MatchOption}
+use Rattle.std.proofs.lemmas.Bool.{both_ways}
+use Rattle.text_bytes.specs.Numbers.{Number}
+use Rattle.text_bytes.proofs.Reading.{parsed, number_from, not_text, is_text, no_number}
 use Rattle.text_bytes.proofs.number.read_number.Goals as goal
-use Rattle.text_bytes.proofs.number.read_number.Goals.{then-b-lt48-via-then-b-lt48, then-b-lt48-via-else-b-lt48+then-b-gt57}
 
-pub returns-then-b-lt48 : goal.returns-then-b-lt48
-returns-then-b-lt48 c =
-    let w = c.args.word.now in
-    let i = c.loop-b.b-index in
-    let d : digit (get_or w i 0) ≡ false =
-    elim c.then-b-lt48.branch [ then-b-lt48-via-then-b-lt48 v ↦ low (get_or w i 0) v.if-b-lt48.true | then-b-lt48-via-else-b-lt48+then-b-gt57 v ↦ high (get_or w i 0) v.if-b-gt57.true ] in
-    let v = sym (in_range w c.loop-b.invariant.3 c.loop-b.invariant.2 ∙ c.loop-b.invariant.0 ∙ stop w i c.loop-b.n c.loop-b-test.true d) in
-    record { value = v; reads = number_reads w None v }
+pub returns-in_err-text : goal.returns-in_err-text
+returns-in_err-text c =
+    let u = not_text c.args.word.now _ c.from_utf8.result c.from_utf8.ensures.cases c.in_err-text.ensures.value in
+    let h : (n : ℕ) → Number n c.args.word.now → ⊥ = λ n k. no_number n c.args.word.now u k in
+    rw c.from_residual.ensures (record { value = number_from c.args.word.now None h; reads = h })
 
-pub overflow_mul-n : goal.overflow_mul-n
-overflow_mul-n c = let i : c.loop-b.b-index < 9 = omega arith in let s = small c.loop-b.b-index c.loop-b.n i c.loop-b.invariant.1 in search rules
-
-pub overflow_add-n : goal.overflow_add-n
-overflow_add-n c = let i : c.loop-b.b-index < 9 = omega arith in let s = small c.loop-b.b-index c.loop-b.n i c.loop-b.invariant.1 in search rules
-
-pub loop-b-preserved : goal.loop-b-preserved
-loop-b-preserved c =
-    let w = c.args.word.now in
-    let i = c.loop-b.b-index in
-    (c.loop-b.invariant.0 ∙ step w i c.loop-b.n c.loop-b-test.true c.if-b-lt48.false c.if-b-gt57.false, grows i c.loop-b.n (get_or w i 0) c.loop-b.invariant.1 c.if-b-gt57.false, c.loop-b.invariant.2, c.loop-b.invariant.3)
+pub returns-then-not-is_short_numeral : goal.returns-then-not-is_short_numeral
+returns-then-not-is_short_numeral c =
+    let h : (n : ℕ) → Number n c.args.word.now → ⊥ = λ n k. both_ways _ c.if-not-is_short_numeral.true (c.is_short_numeral.ensures.1 (k.1, k.2)) in
+    record { value = number_from c.args.word.now None h; reads = h }
 
 pub returns : goal.returns
 returns c =
-    let w = c.args.word.now in
-    let v = sym (in_range w c.loop-b.invariant.3 c.loop-b.invariant.2 ∙ c.loop-b.invariant.0 ∙ end w c.loop-b.b-index c.loop-b.n c.loop-b-test.false) in
-    record { value = v; reads = number_reads w (Some c.loop-b.n) v }
+    let t = is_text c.args.word.now _ c.from_utf8.result c.in_ok-text.text c.from_utf8.ensures.cases c.in_ok-text.ensures.value in
+    let p = parsed c.args.word.now c.from_str_radix.result (c.is_short_numeral.ensures.0 c.if-not-is_short_numeral.false) (rw t at c.from_str_radix.ensures.value) in
+    let h : MatchOption c.ok-2.result ((n : ℕ) → Number n c.args.word.now → ⊥) (λ n. Number n c.args.word.now) = rw c.ok-2.ensures.value p in
+    record { value = number_from c.args.word.now c.ok-2.result h; reads = h }

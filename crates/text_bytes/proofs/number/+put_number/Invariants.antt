@@ -1,5 +1,0 @@
--- The number falls with each call.
-use Rattle.text_bytes.proofs.number.+put_number.Given as goal
-
-abbrev pub decreases-put_number : goal.decreases-put_number
-decreases-put_number l = l.n
