@@ -1,3 +1,4 @@
 -- Lemmas on the deck's answer.
 pub mod Lines
 pub mod Outcome
+pub mod Pages

@@ -21,9 +21,12 @@ pub const LONGEST: usize = 32_768;
 pub const ROOM: usize = 4_096;
 
 /// Writes the listing of the lines after the edition, under that edition.
-fn list_under<E: Edition + Drop>(edition: E, deck: &[u8], out: &mut [u8]) -> Result<usize, Refusal>
-    requires long { length deck.now ≤ 32768 }
-    requires room { 4096 ≤ length out.old }
+fn list_under<E: Edition + Drop>(
+    edition: E,
+    deck: &[u8],
+    out: &mut [u8; ROOM],
+) -> Result<usize, Refusal>
+    requires { length deck.now ≤ 32768 }
     ensures { Listed (Under E.NEEDS E.meaning edition deck.now) out.old out.new result }
 {
     let mut desk = Desk {
@@ -41,8 +44,7 @@ fn list_under<E: Edition + Drop>(edition: E, deck: &[u8], out: &mut [u8]) -> Res
 }
 
 /// Writes the listing of a deck.
-fn list(deck: &[u8], out: &mut [u8]) -> Result<usize, Refusal>
-    requires { 4096 ≤ length out.old }
+fn list(deck: &[u8], out: &mut [u8; ROOM]) -> Result<usize, Refusal>
     ensures { Listed (Comes deck.now) out.old out.new result }
 {
     if deck.len() > LONGEST {
@@ -51,10 +53,9 @@ fn list(deck: &[u8], out: &mut [u8]) -> Result<usize, Refusal>
             line: 0,
         });
     }
-    // One match for the editions and the refusal: after `map_err` and `?` a second one, on the edition, would follow.
-    match read_edition(deck) {
-        Ok((Published::Nehrp2003, rest)) => list_under(Nehrp2003, rest, out),
-        Err(fault) => Err(Refusal { fault, line: 1 }),
+    let (published, rest) = read_edition(deck).map_err(|fault| Refusal { fault, line: 1 })?;
+    match published {
+        Published::Nehrp2003 => list_under(Nehrp2003, rest, out),
     }
 }
 
@@ -65,20 +66,20 @@ pub fn answer(deck: &[u8], out: &mut [u8]) -> Reply
     ensures bound { result.written ≤ length out.old }
     ensures kept { drop result.written out.new ≡ drop result.written out.old }
 {
-    if out.len() < ROOM {
+    let Some(page) = out.first_chunk_mut::<ROOM>() else {
         let fault = Fault::new(Layer::Deck, Cause::ListShort, ROOM as u32);
         return Reply {
             written: 0,
             outcome: Err(Refusal { fault, line: 0 }),
         };
-    }
-    match list(deck, out) {
+    };
+    match list(deck, page) {
         Ok(written) => Reply {
             written,
             outcome: Ok(()),
         },
         Err(refusal) => Reply {
-            written: put_fault(out, refusal),
+            written: put_fault(page, refusal),
             outcome: Err(refusal),
         },
     }

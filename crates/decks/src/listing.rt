@@ -1,14 +1,15 @@
 //! The bytes of a listing and of a fault.
-ghost use Rattle.std.specs.Prelude.{◌+◌, ◌*◌, ◌≤◌, length};
+ghost use Rattle.std.specs.Prelude.{◌≡◌, ◌+◌, ◌*◌, ◌≤◌, length};
 ghost use Rattle.text_bytes.specs.Writing.{Writes};
 ghost use Rattle.text_bytes.specs.Wrote.{Puts};
 ghost use Rattle.decks.specs.Listing.{line_bytes, lines_bytes, base_bytes, listing as listing_bytes, fault_bytes};
 
+use crate::answer::ROOM;
 use grammar::entry::Refusal;
 use sheets::line::{Line, Totals};
 use text_bytes::put::Writer;
 
-// No `Display`: a `write!` may fail, and no contract says when it does not, while the answer to a deck is always written.
+// No `Display`: `write!` promises its text where it answers `Ok`, and no clause says when it does, while a deck is always answered.
 
 /// Writes a level's line: height, force, shear and moment.
 fn put_line(writer: &mut Writer<'_>, line: Line)
@@ -44,9 +45,8 @@ fn put_base(writer: &mut Writer<'_>, totals: Totals)
 }
 
 /// Writes a sheet's listing at the front of the buffer, and answers where it ends.
-pub(crate) fn put_listing(out: &mut [u8], totals: Totals, lines: &[Line]) -> usize
-    requires few { length lines.now ≤ 64 }
-    requires room { 4096 ≤ length out.old }
+pub(crate) fn put_listing(out: &mut [u8; ROOM], totals: Totals, lines: &[Line]) -> usize
+    requires { length lines.now ≤ 64 }
     ensures { Puts out.old 0 (listing_bytes totals lines.now) out.new result }
 {
     let mut writer = Writer { out, at: 0 };
@@ -57,9 +57,9 @@ pub(crate) fn put_listing(out: &mut [u8], totals: Totals, lines: &[Line]) -> usi
 }
 
 /// Writes a refusal's line at the front of the buffer, and answers where it ends: cause, place, layer and line.
-pub(crate) fn put_fault(out: &mut [u8], refusal: Refusal) -> usize
-    requires { 4096 ≤ length out.old }
-    ensures { Puts out.old 0 (fault_bytes refusal) out.new result }
+pub(crate) fn put_fault(out: &mut [u8; ROOM], refusal: Refusal) -> usize
+    ensures puts { Puts out.old 0 (fault_bytes refusal) out.new result }
+    ensures long { length out.new ≡ 4096 }
 {
     let fault = refusal.fault;
     let mut writer = Writer { out, at: 0 };

@@ -3,7 +3,7 @@ use Rattle.std.specs.Prelude.{◌≡◌, ℕ, ◌*◌, ◌<◌, ◌≤◌, max, 
 use Rattle.std.proofs.Common.{ap, zero-le, mul-pos, le_trans, arith, lit<, lit≤}
 use Rattle.std.specs.Option.{unwrap_or}
 use Rattle.std.proofs.lemmas.Nat.{mul-le}
-use Rattle.std.proofs.lemmas.Bool.{cond_both, leb-true}
+use Rattle.std.proofs.lemmas.Bool.{cond_both}
 use Rattle.std.proofs.lemmas.Bool.Decides.{nat_tests}
 use Rattle.settings.specs.declared.record.Settings.{Settings}
 use Rattle.settings.specs.declared.setting.Setting.{Setting}
@@ -17,7 +17,7 @@ use Rattle.editions.specs.declared.ratio.Ratio.{Ratio}
 use Rattle.editions.specs.Edition.{Asked, Bounded, Agree}
 use Rattle.editions.specs.Ratios.{◌over◌, AtMost, smaller, larger, up}
 use Rattle.editions.specs.Nehrp2003.{needed, figures, share, plateau, falling, long_falling, period_term, floor, near_floor, raised, governing, exponent, answers, meaning, Fair, Loaded}
-use Rattle.editions.specs.Fractions.{at_most_trans, smaller_left, smaller_is, larger_is, larger_right, pos_above, up_le, up_pos}
+use Rattle.editions.specs.Fractions.{at_most_trans, smaller_left, smaller_is, larger_is, larger_left, larger_right, pos_above, up_le, up_pos}
 
 -- a fraction with a positive base that is at most 23,040,000
 abbrev Sound : Ratio → Type 0
@@ -43,39 +43,61 @@ module _ (f : Figures) (h : Fair f) (w t : ℕ) (l : Loaded w t) where
   pub three : (a : ℕ) → a ≤ 4000 → a * (f.i * w) ≤ 2304000000000
   three a m = mul-le a (f.i * w) 4000 576000000 m iw
 
+  pub four : (a b : ℕ) → a ≤ 4000 → b ≤ 20000 → a * b * (f.i * w) ≤ 46080000000000000
+  four a b m n = mul-le (a * b) (f.i * w) 80000000 576000000 (mul-le a b 4000 20000 m n) iw
+
   share_sound : (a k : ℕ) → a ≤ 4000 → 1000 ≤ k → Sound (share f w a k)
   share_sound a k m n =
       let base : 100 * 1000 ≤ f.r * k = mul-le 100 1000 f.r k h.r.0 n in
       (omega arith, omega (arith, three a m))
 
+  plateau_sound : Sound (plateau f w t)
+  plateau_sound = share_sound f.sds 1000 h.sds (omega arith)
+
+  near_sound : Sound (near_floor f w t)
+  near_sound = share_sound f.s1 2000 h.s1 (omega arith)
+
+  floor_sound : Sound (floor f w t)
+  floor_sound = (omega arith, omega (arith, l.weight))
+
+  falling_den : 0 < f.r * t
+  falling_den = mul-pos (omega (arith, h.r)) l.period.0
+
   term_den : 0 < (period_term f w t).den
   term_den =
-      cond_both (nat_le t f.tl) (falling f w t) (long_falling f w t) (λ x. 0 < x.den) (λ _. mul-pos r_pos l.period.0)
-      (λ _. mul-pos r_pos (mul-pos l.period.0 l.period.0))
-    where
-      r_pos : 0 < f.r
-      r_pos = omega (arith, h.r)
+      cond_both (nat_le t f.tl) (falling f w t) (long_falling f w t) (λ x. 0 < x.den) (λ _. falling_den)
+      (λ _. mul-pos (omega (arith, h.r)) (mul-pos l.period.0 l.period.0))
+
+  less_sound : Sound (smaller (plateau f w t) (period_term f w t))
+  less_sound = smaller_sound (plateau f w t) (period_term f w t) plateau_sound term_den
 
   raised_governs : Governs (raised f w t)
-  raised_governs =
-      larger_governs (smaller (plateau f w t) (period_term f w t)) (floor f w t)
-      (smaller_sound (plateau f w t) (period_term f w t) (share_sound f.sds 1000 h.sds (omega arith)) term_den)
-      ((omega arith, omega (arith, l.weight)), l.weight.0)
+  raised_governs = larger_governs (smaller (plateau f w t) (period_term f w t)) (floor f w t) less_sound (floor_sound, l.weight.0)
 
-  -- the floor near a major fault counts only where the acceleration is above 0
-  near_governs : 600 ≤ f.s1 → Governs (near_floor f w t)
-  near_governs n = (share_sound f.s1 2000 h.s1 (omega arith), mul-pos (omega arith) (mul-pos (omega (arith, h.i)) l.weight.0))
+  raised_sound : Sound (raised f w t)
+  raised_sound = raised_governs.0
+
+  raised_pos : 0 < (raised f w t).num
+  raised_pos = raised_governs.1
+
+  both_sound : Sound (larger (raised f w t) (near_floor f w t))
+  both_sound = larger_is (raised f w t) (near_floor f w t) Sound raised_sound near_sound
+
+  both_pos : 0 < (larger (raised f w t) (near_floor f w t)).num
+  both_pos = pos_above (raised f w t) (larger (raised f w t) (near_floor f w t)) (larger_left (raised f w t) (near_floor f w t)) raised_pos both_sound.0
 
   governs : Governs (governing f w t)
   governs =
-      cond_both (nat_le 600 f.s1) (larger (raised f w t) (near_floor f w t)) (raised f w t) Governs
-      (λ e. larger_governs (raised f w t) (near_floor f w t) raised_governs.0 (near_governs (leb-true _ _ e))) (λ _. raised_governs)
+      cond_both (nat_le 600 f.s1) (larger (raised f w t) (near_floor f w t)) (raised f w t) Governs (λ _. (both_sound, both_pos)) (λ _. raised_governs)
 
   pub governing_sound : Sound (governing f w t)
   governing_sound = governs.0
 
+  governing_pos : 0 < (governing f w t).num
+  governing_pos = governs.1
+
   shear_low : 1 ≤ up (governing f w t)
-  shear_low = up_pos (governing f w t) governing_sound.0 governs.1
+  shear_low = up_pos (governing f w t) governing_sound.0 governing_pos
 
   pub shear_high : up (governing f w t) ≤ 23040000
   shear_high = up_le (governing f w t) 23040000 governing_sound.0 (omega (arith, governing_sound.1))

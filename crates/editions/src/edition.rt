@@ -27,6 +27,7 @@ pub trait Edition {
     /// The set of the settings that the edition needs, a binary digit for each number.
     const NEEDS: u16;
 
+    // the constant, as clauses cite it
     ghost NEEDS: { ℕ };
 
     ghost meaning: { Self → Settings → ℕ → ℕ → Answers };

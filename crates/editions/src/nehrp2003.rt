@@ -70,7 +70,7 @@ impl Demand {
         }
     }
 
-    /// The most that the base shear comes to, however short the period.
+    /// The plateau, which caps the period term.
     fn plateau(self) -> Ratio
         ensures { result ≡ plateau self.figures self.weight self.period }
     {

@@ -9,7 +9,7 @@ pub struct Ratio {
     pub den: u64,
 }
 
-// No `Ord`: by cross products the order is not transitive where a fraction's base is 0, and a derived one would compare the pairs.
+// No `Ord`: by cross products the order is not transitive where a denominator is 0, and a derived one would compare the pairs.
 impl Ratio {
     /// Whether the fraction is at most another.
     fn at_most(self, other: Ratio) -> bool

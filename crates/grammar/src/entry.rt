@@ -29,7 +29,7 @@ impl TryFrom<u32> for Published {
 /// What a line between the edition and the sheet enters.
 #[derive(Clone, Copy, Debug, PartialEq, Eq)]
 pub enum Entry {
-    // The number stays one, since the job refuses a number that is no setting's, and not the grammar.
+    // A number and not a setting: what is no setting's number the job refuses, and not the grammar.
     Set {
         number: u32,
         value: u32,

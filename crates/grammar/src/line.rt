@@ -45,7 +45,7 @@ fn edition_in(line: &[u8]) -> Result<Published, Fault>
 {
     let fields = split_line(line);
     match Word::of(fields.word) {
-        Some(Word::Edition) if fields.count == 1 => edition_at(fields.first, 2),
+        Some(Word::Edition) if fields.count == Word::Edition.arity() => edition_at(fields.first, 2),
         _ => Err(malformed()),
     }
 }

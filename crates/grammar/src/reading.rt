@@ -9,6 +9,7 @@ use crate::entry::{Entry, Refusal};
 use crate::line::read_entry;
 use faults::fault::Fault;
 
+// A trait and not a closure: of what a closure changes in the job that it borrows, whoever made it learns nothing.
 /// What a deck's entries are handed to.
 pub trait Takes {
     // the state before, the entry, the fault if it was refused, and the state after
@@ -36,7 +37,7 @@ pub fn read_entries<T: Takes>(deck: &[u8], taker: &mut T) -> Result<u32, Refusal
 {
     let mut rest = deck;
     let mut line: u32 = 2;
-    // `for line in 2..` would have to say that its end is never reached
+    // `for line in 2..` would have to say that its end is never reached; the label is the loop's name in its proof
     'lines: while let Some(after) = step(rest, taker).map_err(|fault| Refusal { fault, line })? {
         rest = after;
         line += 1;

@@ -13,6 +13,7 @@ pub enum Word {
     Sheet,
 }
 
+// A table that is searched, and not a conversion by a trait: a text is a word or none, and how each is spelt stands once.
 impl Word {
     const ALL: [Word; 5] = [
         Word::Edition,
@@ -39,7 +40,8 @@ impl Word {
     fn is(self, text: &[u8]) -> bool
         ensures { result ≡ bytes_eq text.now (spelling_of self) }
     {
-        text == self.spelling()
+        let spelt = self.spelling();
+        text == spelt
     }
 
     /// Which word a text is.

@@ -1,4 +1,5 @@
-//! A job is opened under one edition and keeps it. An entry changes one table of its building, or is refused and changes nothing.
+//! A job is opened under one edition and keeps it. An entry changes the settings or one table of its building, or
+//! is refused and changes nothing.
 ghost use Rattle.std.specs.Prelude.{◌≡◌, ℕ, [], None};
 ghost use Rattle.settings.specs.Figures.{entry};
 ghost use Rattle.tables.specs.Table.{listed};
@@ -17,6 +18,8 @@ pub struct Job<E> {
     pub(crate) building: Building,
 }
 
+// The calls of levels and of walls are pairs by their names: what is the same of them is the table's. That the edition stays is a clause
+// of each, since no type says what a call leaves as it was.
 impl<E: Edition> Job<E> {
     /// Opens a job with no figure.
     pub fn new(edition: E) -> Job<E>

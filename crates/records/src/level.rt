@@ -6,6 +6,7 @@ use faults::fault::{Cause, Fault};
 use faults::range::Range;
 use tables::keyed::Keyed;
 
+// `Default` fills the cells of a table that are no record: no figure of it is in range.
 /// A level. Heights are in mm, weights and loads in units of 0.1 kN.
 #[derive(Clone, Copy, PartialEq, Eq, Default, Debug)]
 pub struct Level {

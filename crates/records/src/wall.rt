@@ -6,6 +6,7 @@ use faults::fault::{Cause, Fault};
 use faults::range::Range;
 use tables::keyed::Keyed;
 
+// `Default` fills the cells of a table that are no record: its rigidity is out of range.
 /// A wall. Positions are in mm; a rigidity counts only beside those of the other walls.
 #[derive(Clone, Copy, PartialEq, Eq, Default, Debug)]
 pub struct Wall {

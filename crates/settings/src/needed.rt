@@ -5,7 +5,8 @@ ghost use Rattle.settings.specs.Sets.{has, Lowest, lowest_absent};
 
 use crate::record::Settings;
 
-// A set is a number of sixteen binary digits, so that an edition writes its own as a constant and no call allocates.
+// A set is a number of sixteen binary digits, by a rule of the project: an edition names what it needs by a constant, and what is
+// missing is one mask.
 impl Settings {
     /// The set of the settings that have a figure.
     pub fn present(&self) -> u16

@@ -7,6 +7,7 @@ pub trait Bearer {
     /// The greatest stake of the kind.
     const GREATEST: u64;
 
+    // the constant, as clauses cite it
     ghost GREATEST: { ℕ };
 
     ghost stake: { Self → ℕ };

@@ -24,7 +24,7 @@ pub fn share<B: Bearer>(amount: u32, total: u64, bearers: &[B], shares: &mut [u3
     ensures { Shared amount (map B.stake bearers.now) shares.old shares.new }
 {
     let mut rest: u64 = 0;
-    // by place: of what is written through a `zip` with `iter_mut` a proof knows the number alone
+    // by place: tried through a `zip` with `iter_mut`, but after that loop the proof knows no more of the shares than their number
     for (i, bearer) in bearers.iter().enumerate() {
         let due = amount as u64 * bearer.stake() + rest;
         shares[i] = (due / total) as u32;

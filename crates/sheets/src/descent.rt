@@ -14,7 +14,7 @@ pub(crate) struct Descent {
 
 impl Descent {
     /// At a height, before any force.
-    pub(crate) fn from(height: u32) -> Descent
+    pub(crate) fn at(height: u32) -> Descent
         requires { height ≤ 500000 }
         ensures { (result.height ≡ height) × (result.shear ≡ 0) × (result.moment ≡ 0) }
     {

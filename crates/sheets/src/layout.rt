@@ -12,7 +12,7 @@ use crate::line::Line;
 use crate::portion::Portion;
 use editions::edition::Answers;
 use sharing::bearer::Bearer;
-use sharing::parts::share;
+use sharing::parts::{share, total_stake};
 
 /// What the roof has of the top force, and any other level.
 fn at_roof(top: u32, k: usize) -> u32
@@ -37,13 +37,16 @@ impl<'a> Layout<'a> {
     pub(crate) fn of(answers: Answers, bearers: &'a [Bearing]) -> Layout<'a>
         requires lawful { Lawful answers }
         requires falling { Falling bearers.now }
-        requires some { 0 < length bearers.now }
         ensures portion { result.portion ≡ portion_of (amount_of answers) bearers.now }
         ensures top { result.top ≡ answers.top }
         ensures bearers { result.bearers.now ≡ bearers.now }
     {
         Layout {
-            portion: Portion::of(answers.shear - answers.top, bearers),
+            portion: Portion {
+                amount: answers.shear - answers.top,
+                least: total_stake(bearers),
+                most: bearers.iter().map(|bearer| bearer.upper()).sum(),
+            },
             top: answers.top,
             bearers,
         }
@@ -61,8 +64,7 @@ impl<'a> Layout<'a> {
     fn high(&self, bearer: &Bearing) -> u64
         ensures { result ≡ high_share self.now.portion bearer.now }
     {
-        (self.portion.amount as u64 * bearer.upper() + (self.portion.least - 1))
-            / self.portion.least
+        (self.portion.amount as u64 * bearer.upper()).div_ceil(self.portion.least)
     }
 
     /// Whether a level's low and high lie more than two apart.
@@ -135,8 +137,8 @@ impl<'a> Layout<'a> {
             ≡ base_moment (force_at self.now.portion.amount self.now.top self.now.bearers.now) (height_at self.now.bearers.now) (length self.now.bearers.now) }
     {
         let roof = &self.bearers[0];
-        let mut descent = Descent::from(roof.height);
-        // the lines by place: of what is written through a `zip` with `iter_mut` a proof knows the number alone
+        let mut descent = Descent::at(roof.height);
+        // the lines by place: through a `zip` with `iter_mut` the proof would know no more of them than their number, as in `share`
         for (k, (bearer, force)) in self.bearers.iter().zip(forces).enumerate() {
             descent = descent.down_to(bearer.height).with_force(*force);
             lines[k] = self.line(k, *force, descent);

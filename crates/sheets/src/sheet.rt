@@ -12,14 +12,10 @@ use editions::edition::Answers;
 use faults::fault::{Cause, Fault, Layer};
 use records::levels::Levels;
 
-// `Falling` is asked here, by `Layout::of` and by `Portion::of`, the steps to the layout whose type carries it: one more type would
-// be made only to be taken apart by the next step.
-
 /// The sheet of these bearers: its totals, and its lines at the front of `lines`.
 fn lay_out(answers: Answers, bearers: &[Bearing], lines: &mut [Line]) -> Result<Totals, Fault>
     requires lawful { Lawful answers }
     requires falling { Falling bearers.now }
-    requires some { 0 < length bearers.now }
     ensures answer { result ≡ answer_of answers bearers.now (length lines.old) }
     ensures lines { lines.new ≡ list_after answers bearers.now lines.old }
 {
@@ -30,6 +26,7 @@ fn lay_out(answers: Answers, bearers: &[Bearing], lines: &mut [Line]) -> Result<
     if lines.len() < bearers.len() {
         return Err(Fault::new(Layer::Sheet, Cause::ListShort, bearers.len() as u32));
     }
+    // room for the most levels, of which a part is lent that is as long as the bearers: no call allocates, by a rule of the project
     let mut room = [0u32; 64];
     let forces = &mut room[..bearers.len()];
     layout.put_forces(forces);
@@ -39,6 +36,8 @@ fn lay_out(answers: Answers, bearers: &[Bearing], lines: &mut [Line]) -> Result<
         moment,
     })
 }
+
+// `Lawful` stays a clause: a job promises it of the answers that it gives out, and the type that said it would be the same figures again.
 
 /// The sheet of a table of levels that is not empty: its totals, and its lines at the front of `lines`, roof first. It refuses
 /// the lowest level whose force cannot be told to within two units, and then a list that is too short. A refusal writes nothing.

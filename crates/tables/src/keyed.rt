@@ -14,6 +14,7 @@ pub trait Keyed: Copy {
     /// Why a key is refused at which no record stands.
     const ABSENT: Cause;
 
+    // the two constants, as clauses cite them
     ghost FULL: { Cause };
 
     ghost ABSENT: { Cause };

@@ -8,13 +8,13 @@ pub mod places;
 
 /// At most `N` records, the first `count` of the cells.
 pub struct Rows<R, const N: usize> {
-    // A rule of the project keeps an array and its count: tables are copied whole, and no call of the engine allocates.
+    // An array and its count, by a rule of the project: tables are copied whole, and a vector of a fixed capacity is not `Copy`.
     cells: [R; N],
     count: usize,
     ghost whole: { Whole N cells count },
 }
 
-// By hand, since a derive on a generic type with a ghost field is refused.
+// By hand: the derive is refused here, where a type with a parameter has a ghost field.
 impl<R: Copy, const N: usize> Clone for Rows<R, N> {
     ghost is_clone = { λ x y. y ≡ x };
 

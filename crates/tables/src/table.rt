@@ -17,7 +17,7 @@ pub struct Table<R: Keyed, const N: usize> {
     ghost fit: { Each (λ x. R.fits x ≡ true) (records rows) },
 }
 
-// By hand, since a derive on a generic type with a ghost field is refused.
+// By hand: the derive is refused here, where a type with a parameter has a ghost field.
 impl<R: Keyed, const N: usize> Clone for Table<R, N> {
     ghost is_clone = { λ x y. y ≡ x };
 

@@ -5,9 +5,9 @@ ghost use Rattle.text_bytes.specs.Pieces.{before, after, others};
 use crate::cut::{count, cut_at};
 
 /// A line's fields: the word, how many come after it, and the first three of those.
-#[derive(Clone, Copy)]
+#[derive(Clone, Copy, PartialEq, Eq, Debug)]
 pub struct Fields<'a> {
-    // Three by name and the count of all: a line may have any number of fields, and by a rule of the project no call allocates a list.
+    // The count stands beside the first three: an array of those would need it as well, since a line may have any number of fields.
     pub word: &'a [u8],
     pub count: usize,
     pub first: &'a [u8],

@@ -16,9 +16,9 @@ pub fn read_number(word: &[u8]) -> Option<u32>
     ensures value { result ≡ number_in word.now }
     ensures reads { MatchOption result ((n : ℕ) → Number n word.now → ⊥) (λ n. Number n word.now) }
 {
-    let text = str::from_utf8(word).ok()?;
     if !is_short_numeral(word) {
         return None;
     }
+    let text = str::from_utf8(word).ok()?;
     u32::from_str_radix(text, 10).ok()
 }

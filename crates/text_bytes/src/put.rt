@@ -4,6 +4,8 @@ ghost use Rattle.text_bytes.specs.Writing.{Writes};
 
 use itoa::{Buffer, Integer};
 
+// No `Display`: `write!` promises its text where it answers `Ok`, and no clause says when it does, while a deck is always answered.
+// The buffer is the caller's, by a rule of the project, so the place in it stands beside it.
 /// A buffer, and where the next text goes in it.
 #[derive(Drop)]
 pub struct Writer<'a> {

@@ -43,35 +43,34 @@ fn settings(rt: HostRuntime) -> Result<(), Fail> {
     Ok(())
 }
 
-/// Whether an entry is taken, where no cause stands beside it, or refused with that cause and place.
-fn taken_or_refused(res: Result<(), Fault>, cause: u32, place: u32) -> bool {
-    if cause == 0 {
-        res.is_ok()
-    } else {
-        refused(res, cause, place)
+/// Whether an entry is taken, or refused with the cause and the place that stand beside it.
+fn meets(res: Result<(), Fault>, refusal: Option<(u32, u32)>) -> bool {
+    match refusal {
+        Some((cause, place)) => refused(res, cause, place),
+        None => res.is_ok(),
     }
 }
 
-/// Levels, each with the cause and the place of its refusal, or 0 where it is taken.
-const LEVELS: [[u32; 5]; 10] = [
-    [1, 1, 1, 0, 0],
-    [500_000, 60_000, 200_000, 0, 0],
-    [0, 1, 1, 1, 0],
-    [500_001, 1, 1, 1, 500_001],
-    [2, 0, 1, 2, 0],
-    [2, 60_001, 1, 2, 60_001],
-    [2, 1, 0, 3, 0],
-    [2, 1, 200_001, 3, 200_001],
-    [0, 0, 0, 1, 0],
-    [2, 0, 0, 2, 0],
+/// Levels, each with the cause and the place of its refusal, or none where it is taken.
+const LEVELS: [([u32; 3], Option<(u32, u32)>); 10] = [
+    ([1, 1, 1], None),
+    ([500_000, 60_000, 200_000], None),
+    ([0, 1, 1], Some((1, 0))),
+    ([500_001, 1, 1], Some((1, 500_001))),
+    ([2, 0, 1], Some((2, 0))),
+    ([2, 60_001, 1], Some((2, 60_001))),
+    ([2, 1, 0], Some((3, 0))),
+    ([2, 1, 200_001], Some((3, 200_001))),
+    ([0, 0, 0], Some((1, 0))),
+    ([2, 0, 0], Some((2, 0))),
 ];
 
 #[test]
 fn levels(rt: HostRuntime) -> Result<(), Fail> {
     let mut job = Job::new(Nehrp2003);
-    for [height, weight, gravity, cause, place] in LEVELS {
+    for ([height, weight, gravity], refusal) in LEVELS {
         let res = job.enter_level(height, weight, gravity);
-        assert!(rt; taken_or_refused(res, cause, place));
+        assert!(rt; meets(res, refusal));
     }
     assert!(rt; job.level_count() == 2 && job.level(2).is_none());
     assert!(rt; refused(job.drop_level(2), 5, 2));
@@ -80,22 +79,22 @@ fn levels(rt: HostRuntime) -> Result<(), Fail> {
     Ok(())
 }
 
-/// Walls, each with the cause and the place of its refusal, or 0 where it is taken.
-const WALLS: [[u32; 4]; 6] = [
-    [0, 1, 0, 0],
-    [500_000, 60_000, 0, 0],
-    [500_001, 1, 8, 500_001],
-    [1, 0, 9, 0],
-    [1, 60_001, 9, 60_001],
-    [500_001, 0, 8, 500_001],
+/// Walls, each with the cause and the place of its refusal, or none where it is taken.
+const WALLS: [([u32; 2], Option<(u32, u32)>); 6] = [
+    ([0, 1], None),
+    ([500_000, 60_000], None),
+    ([500_001, 1], Some((8, 500_001))),
+    ([1, 0], Some((9, 0))),
+    ([1, 60_001], Some((9, 60_001))),
+    ([500_001, 0], Some((8, 500_001))),
 ];
 
 #[test]
 fn walls(rt: HostRuntime) -> Result<(), Fail> {
     let mut job = Job::new(Nehrp2003);
-    for [position, rigidity, cause, place] in WALLS {
+    for ([position, rigidity], refusal) in WALLS {
         let res = job.enter_wall(position, rigidity);
-        assert!(rt; taken_or_refused(res, cause, place));
+        assert!(rt; meets(res, refusal));
     }
     job.enter_wall(0, 7)?;
     assert!(rt;

@@ -1,7 +1,7 @@
 //! Decks and what they are told, byte for byte.
 use decks::answer::{ROOM, answer};
-use faults::fault::{Cause, Layer};
-use std::test::Fail;
+use faults::fault::{Cause, Fault, Layer};
+use grammar::entry::Refusal;
 
 /// The first job, its listing, and the same settings over levels whose forces cannot be told and over levels too heavy for a sheet.
 const SHEETS: [(&str, &str); 3] = [
@@ -106,15 +106,14 @@ fn lines(rt: HostRuntime) {
 }
 
 #[test]
-fn short_buffer(rt: HostRuntime) -> Result<(), Fail> {
+fn short_buffer(rt: HostRuntime) {
     let mut out = [7u8; 4_095];
     let reply = answer(b"EDITION 1\nSHEET\n", &mut out);
     assert!(rt; reply.written == 0 && out[0] == 7);
-    let Err(refusal) = reply.outcome else {
-        assert!(rt; false);
-        return Ok(());
+    let fault = Fault {
+        cause: Cause::ListShort,
+        place: 4_096,
+        layer: Layer::Deck,
     };
-    assert!(rt; refusal.fault.cause == Cause::ListShort && refusal.fault.layer == Layer::Deck);
-    assert!(rt; refusal.fault.place == 4_096 && refusal.line == 0);
-    Ok(())
+    assert!(rt; reply.outcome == Err(Refusal { fault, line: 0 }));
 }

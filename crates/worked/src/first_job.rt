@@ -1,6 +1,7 @@
 //! The first job: three levels under NEHRP 2003, and what becomes of it under other periods.
+use crate::refusals::refused_in;
 use editions::nehrp2003::Nehrp2003;
-use faults::fault::{Cause, Fault};
+use faults::fault::Fault;
 use jobs::job::Job;
 use std::test::Fail;
 
@@ -25,8 +26,8 @@ fn job_with(changes: &[(u32, u32)]) -> Result<Job<Nehrp2003>, Fault> {
     for (number, value) in changes {
         job.set(*number, *value)?;
     }
-    for level in LEVELS.iter() {
-        job.enter_level(level[0], level[1], level[2])?;
+    for [height, weight, gravity] in LEVELS {
+        job.enter_level(height, weight, gravity)?;
     }
     Ok(job)
 }
@@ -54,17 +55,11 @@ fn periods(rt: HostRuntime) -> Result<(), Fail> {
 #[test]
 fn refusals_in_order(rt: HostRuntime) -> Result<(), Fail> {
     let mut job = Job::new(Nehrp2003);
-    assert!(rt; refused(&job, Cause::NoLevels, 0));
+    assert!(rt; refused_in(2, job.answers(), 14, 0));
     job.enter_level(500_000, 60_000, 1)?;
-    assert!(rt; refused(&job, Cause::SettingAbsent, 0));
+    assert!(rt; refused_in(2, job.answers(), 15, 0));
     job.set(0, 100)?;
     job.set(2, 1)?;
-    assert!(rt; refused(&job, Cause::SettingAbsent, 1));
+    assert!(rt; refused_in(2, job.answers(), 15, 1));
     Ok(())
-}
-
-/// Whether the job's answers are refused so.
-fn refused(job: &Job<Nehrp2003>, cause: Cause, place: u32) -> bool {
-    job.answers()
-        .is_err_and(|fault| fault.cause == cause && fault.place == place)
 }

@@ -60,6 +60,7 @@ impl<R: Copy, const N: usize> Rows<R, N> {
         ensures { rows result ≡ insert (rows self) place x }
     {
         let mut cells = self.cells;
+        // to the end of the cells, the last of which is no record yet; a part of an array of `N` is not lent in one step
         let all = &mut cells[..];
         all[place..].rotate_right(1);
         all[place] = x;

@@ -19,15 +19,10 @@ impl<R: Keyed, const N: usize> Table<R, N> {
             Ok(i) => Some(Table {
                 rows: self.rows.put_at(i, x),
             }),
-            Err(i) => {
-                if self.len() < N {
-                    Some(Table {
-                        rows: self.rows.insert_at(i, x),
-                    })
-                } else {
-                    None
-                }
-            }
+            Err(i) if self.len() < N => Some(Table {
+                rows: self.rows.insert_at(i, x),
+            }),
+            Err(_) => None,
         }
     }
 

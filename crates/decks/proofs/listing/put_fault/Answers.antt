@@ -5,9 +5,9 @@ use Rattle.text_bytes.proofs.Writing.{writes_more, written}
 use Rattle.decks.specs.Listing.{fault_bytes}
 use Rattle.decks.proofs.listing.put_fault.Goals as goal
 
-pub returns : goal.returns
+pub returns-clause-puts : goal.returns-clause-puts
 unfolding fault_bytes field
-returns c =
+returns-clause-puts c =
     let cause = rw c.number.ensures.value at c.put_number.ensures.writes in
     let layer = rw c.number-2.ensures.value at c.put_number-3.ensures.writes in
     let all =
@@ -15,4 +15,4 @@ returns c =
     (writes_more _ _ _ _ _ cause
     (writes_more _ _ _ _ _ c.put_number-2.ensures.writes
     (writes_more _ _ _ _ _ layer c.put_number-4.ensures.writes))) in
-    written _ _ _ _ all (search (rules, all.same_buffer))
+    written _ _ _ _ all (search rules)

@@ -8,4 +8,4 @@ pub returns : goal.returns
 unfolding listing
 returns c =
     let all = writes_more _ _ _ _ _ c.put_bytes.ensures (writes_more _ _ _ _ _ c.put_lines.ensures.writes c.put_base.ensures) in
-    written _ _ _ _ all (search (rules, all.same_buffer))
+    written _ _ _ _ all (search rules)

@@ -4,7 +4,7 @@ use Rattle.tables.specs.Table.{listed}
 use Rattle.sheets.specs.declared.bearing.Bearing.{Bearing}
 use Rattle.sheets.specs.Bearings.{Standing, Falling, bearings}
 use Rattle.sheets.specs.Sheet.{answer, after, refused}
-use Rattle.sheets.proofs.Levels.{levels_fall, length_bearings}
+use Rattle.sheets.proofs.Levels.{levels_fall}
 use Rattle.sheets.proofs.Tables.{table_stands}
 use Rattle.sheets.proofs.Whole.{sound_made}
 use Rattle.sheets.proofs.sheet.sheet_of.Goals as goal
@@ -16,11 +16,6 @@ pub lay_out-requires-clause-falling : goal.lay_out-requires-clause-falling
 lay_out-requires-clause-falling c =
     let same : c.as_slice-2.result.now ≡ bearings c.args.answers.exponent (listed c.args.levels.now) = cc in
     subst Falling (sym same) (levels_fall _ _ c.requires.lawful.exponent (table_stands _ c.args.levels.now.rising c.args.levels.now.fit (omega (arith, c.args.levels.now.rows.whole)) c.requires.some))
-
-pub lay_out-requires-clause-some : goal.lay_out-requires-clause-some
-lay_out-requires-clause-some c =
-    let same : c.as_slice-2.result.now ≡ bearings c.args.answers.exponent (listed c.args.levels.now) = cc in
-    omega (arith, ap length same, length_bearings c.args.answers.exponent (listed c.args.levels.now))
 
 pub returns-clause-laws : goal.returns-clause-laws
 returns-clause-laws c =

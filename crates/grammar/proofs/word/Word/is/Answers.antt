@@ -8,5 +8,5 @@ use Rattle.grammar.proofs.word.Word.is.Goals as goal
 pub returns : goal.returns
 returns c =
     let text = c.args.text.now in
-    let word = c.spelling.result.now in
-    same_from_decides _ _ (slice_eq-Decides Decides-eqb _ _ _ c.eq.ensures) (bytes_eq-Decides text word) ∙ ap (bytes_eq text) c.spelling.ensures
+    let spelt = c.spelling-spelt.result.now in
+    same_from_decides _ _ (slice_eq-Decides Decides-eqb _ _ _ c.eq.ensures) (bytes_eq-Decides text spelt) ∙ ap (bytes_eq text) c.spelling-spelt.ensures

@@ -11,7 +11,7 @@ use Rattle.sheets.proofs.layout.Layout.write_lines.Goals as goal
 pub loop-k-init : goal.loop-k-init
 loop-k-init c =
     let roof = get_or_default c.args.self.now.bearers.now 0 c.index-self-0.result ground c.args.self.now.some in
-    let start = c.from-descent.ensures in
+    let start = c.at-descent.ensures in
     written_none _ _ _ _ _ _ _ _ (start.0 ∙ ap (λ (b : Bearing). b.height) (c.roof.view_is ∙ roof), start.1, start.2)
 
 pub down_to-requires : goal.down_to-requires

@@ -9,12 +9,12 @@ pub returns-in-Ok : goal.returns-in-Ok
 returns-in-Ok g c =
     rw c.put_at.ensures (entered_over g.R.Keyed.key (listed c.args.self) c.args.self.rising g.row.N c.in-Ok.i c.args.x (rw c.key.ensures at c.in-Ok.ensures))
 
-pub returns-then-len : goal.returns-then-len
-returns-then-len g c =
+pub returns-in-Err : goal.returns-in-Err
+returns-in-Err g c =
     rw c.insert_at.ensures (entered_new g.R.Keyed.key (listed c.args.self) c.args.self.rising g.row.N c.in-Err.i c.args.x (rw c.key.ensures at c.in-Err.ensures) (omega arith))
 
-pub invariant_of-result-then-len : goal.invariant_of-result-then-len
-invariant_of-result-then-len g c =
+pub invariant_of-result-in-Err : goal.invariant_of-result-in-Err
+invariant_of-result-in-Err g c =
     let xs = listed c.args.self in
     let lack = rw c.key.ensures at c.in-Err.ensures in
     rw c.insert_at.ensures (record {
@@ -22,5 +22,5 @@ invariant_of-result-then-len g c =
       fit = each_inserted (λ x. g.R.Keyed.fits x ≡ true) xs c.in-Err.i c.args.x lack.within c.args.self.fit c.requires;
     })
 
-pub returns-else-len : goal.returns-else-len
-returns-else-len g c = (lacks_found g.R.Keyed.key (listed c.args.self) _ c.in-Err.i (rw c.key.ensures at c.in-Err.ensures), omega arith)
+pub returns-in-Err-2 : goal.returns-in-Err-2
+returns-in-Err-2 g c = (lacks_found g.R.Keyed.key (listed c.args.self) _ c.in-Err.i (rw c.key.ensures at c.in-Err.ensures), omega arith)
