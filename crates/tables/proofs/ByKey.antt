@@ -1,8 +1,9 @@
 -- Records by a key: what a look-up answers, and what an entry or a removal leaves.
-use Rattle.std.proofs.Common.{◌≡◌, ◌≢◌, ℕ, zero, suc, ◌<◌, eqb, List, [], ◌∷◌, length, get_or, set, Some, None, refl, arith}
+use Rattle.std.proofs.Common.{◌≡◌, ◌≢◌, ℕ, zero, suc, ◌<◌, eqb, List, [], ◌∷◌, length, get_or, set, Some, None, Ok, Err, Option, Result, MatchOption, MatchResult, refl, arith}
 use Rattle.std.proofs.lemmas.Bool.Decides.{nat_tests}
 use Rattle.std.specs.List.{insert, remove}
 use Rattle.std.specs.Map.{update}
+use Rattle.std.specs.Result.{result_ok}
 use Rattle.tables.specs.Keys.{found, Rising, Holds, Lacks, Entered, Struck}
 use Rattle.tables.proofs.Rising.{rising_set, rising_inserted, rising_removed}
 
@@ -86,3 +87,8 @@ module _ {R : Type 0} (key : R → ℕ) (xs : List R) (up : Rising key xs) (n i 
 
 pub lacks_found : {R : Type 0} (key : R → ℕ) (xs : List R) (k i : ℕ) → Lacks key xs k i → found key xs k ≡ None
 lacks_found key xs k i lack = found_absent key xs k (λ j d within same. grind (arith, lack.before j d, lack.after j d))
+
+-- what a search says where its place alone is kept
+pub placed : {R : Type 0} (key : R → ℕ) (xs : List R) (k : ℕ) (r : Result ℕ ℕ) (o : Option ℕ) → MatchResult r (Holds key xs k) (Lacks key xs k) → result_ok r ≡ o → MatchOption o (found key xs k ≡ None) (Holds key xs k)
+placed key xs k (Ok i) o has e = rw (← e) has
+placed key xs k (Err i) o lack e = rw (← e) (lacks_found key xs k i lack)

@@ -6,6 +6,7 @@ use std::alloc::AllocError;
 
 pub mod places;
 
+// No model: `Copy` would want the model's inverse, and the list of the records forgets the cells past the count.
 /// At most `N` records, the first `count` of the cells.
 pub struct Rows<R, const N: usize> {
     // An array and its count, by a rule of the project: tables are copied whole, and a vector of a fixed capacity is not `Copy`.

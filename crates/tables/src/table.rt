@@ -10,6 +10,7 @@ use std::alloc::AllocError;
 pub mod entering;
 pub mod reading;
 
+// No model, as `Rows` has none.
 /// Records in order of their keys, at most `N`.
 pub struct Table<R: Keyed, const N: usize> {
     rows: Rows<R, N>,

@@ -33,7 +33,7 @@ impl<R: Copy, const N: usize> Rows<R, N> {
     }
 
     /// The record at a place.
-    pub(crate) fn at(&self, i: usize) -> R
+    pub fn at(&self, i: usize) -> R
         requires { i < length (rows self.now) }
         ensures { (d : R) → result ≡ slice_index_or (rows self.now) i d }
     {
@@ -41,7 +41,7 @@ impl<R: Copy, const N: usize> Rows<R, N> {
     }
 
     /// The table with `x` in the place of the record at `i`.
-    pub(crate) fn put_at(self, i: usize, x: R) -> Self
+    pub fn put_at(self, i: usize, x: R) -> Self
         requires { i < length (rows self) }
         ensures { rows result ≡ slice_set (rows self) i x }
     {

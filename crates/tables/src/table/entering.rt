@@ -30,9 +30,7 @@ impl<R: Keyed, const N: usize> Table<R, N> {
     fn without(self, k: u32) -> Option<Self>
         ensures { MatchOption result (found R.key (listed self) k ≡ None) (λ t. Struck R.key (listed self) (listed t) k) }
     {
-        let Ok(i) = self.seek(k) else {
-            return None;
-        };
+        let i = self.seek(k).ok()?;
         Some(Table {
             rows: self.rows.remove_at(i),
         })

@@ -45,9 +45,7 @@ impl<R: Keyed, const N: usize> Table<R, N> {
     pub fn find(&self, k: u32) -> Option<R>
         ensures { result ≡ found R.key (listed self.now) k }
     {
-        let Ok(i) = self.seek(k) else {
-            return None;
-        };
+        let i = self.seek(k).ok()?;
         Some(self.rows.at(i))
     }
 }
