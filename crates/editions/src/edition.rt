@@ -24,6 +24,7 @@ pub struct Answers {
 
 /// An edition of a code: its needed set, and its meaning, a ghost member that its method answers.
 pub trait Edition {
+    // A number, as `Settings::present` gives it: a list of settings would be turned into that number at each question.
     /// The set of the settings that the edition needs, a binary digit for each number.
     const NEEDS: u16;
 

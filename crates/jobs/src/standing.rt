@@ -11,6 +11,7 @@ use editions::edition::Edition;
 use records::level::Level;
 use records::wall::Wall;
 
+// `level` and `wall` are a pair by their names: what is the same of them is the table's.
 impl<E: Edition> Job<E> {
     // By number, as `set` takes it.
     /// The figure of the setting with that number, if it has one.

@@ -53,6 +53,7 @@ impl Progress {
     }
 }
 
+// That `e` is at most `BASE` stays a clause: callers have the number from an edition's answers, and a type of exponents would ask more.
 /// `height / roof` to the power `1 + e / BASE`.
 #[tactic(auto, using(crate::proofs::Digits::after_more), unfolding(crate::specs::Powers::after))]
 pub fn height_power(height: u32, roof: u32, e: u32) -> Enclosure

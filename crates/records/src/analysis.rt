@@ -32,6 +32,7 @@ pub const DEFLECTIONS: Range = Range {
 };
 
 impl Analysis {
+    // As `Keyed::admit`, and no trait above both: an analysis has no key, and nothing takes analyses and other kinds alike.
     /// Refuses the force used if it is out of range, then the first deflection that is: centre, left edge, right edge.
     pub fn admit(self) -> Result<(), Fault>
         ensures refusal { result_err result ≡ figure_refusal self }

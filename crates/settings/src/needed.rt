@@ -5,8 +5,8 @@ ghost use Rattle.settings.specs.Sets.{has, Lowest, lowest_absent};
 
 use crate::record::Settings;
 
-// A set is a number of sixteen binary digits, by a rule of the project: an edition names what it needs by a constant, and what is
-// missing is one mask.
+// A set is a number of sixteen binary digits: what is missing is one mask, and a type of sets would only wrap the number that editions
+// give and callers are given.
 impl Settings {
     /// The set of the settings that have a figure.
     pub fn present(&self) -> u16

@@ -89,7 +89,7 @@ pub written_next : (f : ℕ → ℕ) (top : ℕ) (p : Portion) (bs : List Bearin
     Written f top p bs old now n above shear moment₀ → n < length bs → m ≡ n + 1 → k ≡ n → b ≡ get_or bs n ground → force ≡ f n →
     ((i j : ℕ) → i < j → j < length bs → height_at bs j ≤ height_at bs i) → length bs ≤ length old →
     height ≡ b.height → shear' ≡ shear + force → moment' ≡ moment₀ + shear * (above - b.height) →
-    l ≡ record { height = height; force = force; low = low_share p (get_or bs k ground) + at_roof top k; high = high_share p (get_or bs k ground) + at_roof top k; shear = shear'; moment = moment' } →
+    l ≡ record { height = b.height; force = force; low = low_share p b + at_roof top k; high = high_share p b + at_roof top k; shear = shear'; moment = moment' } →
     Written f top p bs old (set now k l) m height shear' moment'
 written_next f top p bs old now n m k above shear moment₀ height shear' moment' force b l w below em ek eb ef falls room eh es et el =
     let h : ℕ → ℕ = height_at bs in

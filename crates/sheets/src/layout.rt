@@ -99,24 +99,24 @@ impl<'a> Layout<'a> {
         forces[0] += self.top;
     }
 
-    /// The line of the k-th level from the roof, with its force and what came down to it.
-    fn line(&self, k: usize, force: u32, descent: Descent) -> Line
+    /// The line of the k-th level from the roof, which bears `force`, with what came down to it.
+    fn line(&self, k: usize, bearer: &Bearing, force: u32, descent: Descent) -> Line
         requires certain { Certain self.now.portion self.now.bearers.now }
         requires place { k < length self.now.bearers.now }
+        requires bearer { bearer.now ≡ slice_index_or self.now.bearers.now k no_bearing }
         ensures { result
             ≡ record {
-              height = descent.height;
+              height = bearer.now.height;
               force = force;
-              low = low_share self.now.portion (slice_index_or self.now.bearers.now k no_bearing) + at_roof self.now.top k;
-              high = high_share self.now.portion (slice_index_or self.now.bearers.now k no_bearing) + at_roof self.now.top k;
+              low = low_share self.now.portion bearer.now + at_roof self.now.top k;
+              high = high_share self.now.portion bearer.now + at_roof self.now.top k;
               shear = descent.shear;
               moment = descent.moment;
             } }
     {
-        let bearer = &self.bearers[k];
         let extra = at_roof(self.top, k);
         Line {
-            height: descent.height,
+            height: bearer.height,
             force,
             low: self.low(bearer) as u32 + extra,
             high: self.high(bearer) as u32 + extra,
@@ -141,7 +141,7 @@ impl<'a> Layout<'a> {
         // the lines by place: through a `zip` with `iter_mut` the proof would know no more of them than their number, as in `share`
         for (k, (bearer, force)) in self.bearers.iter().zip(forces).enumerate() {
             descent = descent.down_to(bearer.height).with_force(*force);
-            lines[k] = self.line(k, *force, descent);
+            lines[k] = self.line(k, bearer, *force, descent);
         }
         descent.down_to(0).moment
     }

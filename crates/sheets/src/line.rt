@@ -18,7 +18,7 @@ pub struct Line {
 }
 
 /// A sheet's totals.
-#[derive(Clone, Copy, PartialEq, Eq, Debug, Default)]
+#[derive(Clone, Copy, PartialEq, Eq, Debug)]
 pub struct Totals {
     /// The base shear V.
     pub shear: u32,

@@ -112,12 +112,15 @@ fn walls(rt: HostRuntime) -> Result<(), Fail> {
 }
 
 /// Analyses, each with the cause and the place of its refusal.
-const ANALYSES: [[u32; 6]; 5] = [
-    [1_000_001, 0, 0, 0, 12, 1_000_001],
-    [0, 4_194_304, 0, 0, 13, 1],
-    [0, 0, 4_194_304, 0, 13, 2],
-    [0, 0, 0, 4_194_304, 13, 3],
-    [1_000_001, 4_194_304, 4_194_304, 4_194_304, 12, 1_000_001],
+const ANALYSES: [([u32; 4], (u32, u32)); 5] = [
+    ([1_000_001, 0, 0, 0], (12, 1_000_001)),
+    ([0, 4_194_304, 0, 0], (13, 1)),
+    ([0, 0, 4_194_304, 0], (13, 2)),
+    ([0, 0, 0, 4_194_304], (13, 3)),
+    (
+        [1_000_001, 4_194_304, 4_194_304, 4_194_304],
+        (12, 1_000_001),
+    ),
 ];
 
 const LARGEST: Analysis = Analysis {
@@ -130,7 +133,7 @@ const LARGEST: Analysis = Analysis {
 #[test]
 fn analyses(rt: HostRuntime) -> Result<(), Fail> {
     LARGEST.admit()?;
-    for [force, centre, left, right, cause, place] in ANALYSES {
+    for ([force, centre, left, right], (cause, place)) in ANALYSES {
         let analysis = Analysis {
             force,
             centre,

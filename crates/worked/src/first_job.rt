@@ -1,7 +1,6 @@
 //! The first job: three levels under NEHRP 2003, and what becomes of it under other periods.
-use crate::refusals::refused_in;
 use editions::nehrp2003::Nehrp2003;
-use faults::fault::Fault;
+use faults::fault::{Cause, Fault, Layer};
 use jobs::job::Job;
 use std::test::Fail;
 
@@ -55,11 +54,11 @@ fn periods(rt: HostRuntime) -> Result<(), Fail> {
 #[test]
 fn refusals_in_order(rt: HostRuntime) -> Result<(), Fail> {
     let mut job = Job::new(Nehrp2003);
-    assert!(rt; refused_in(2, job.answers(), 14, 0));
+    assert!(rt; job.answers() == Err(Fault::new(Layer::Sheet, Cause::NoLevels, 0)));
     job.enter_level(500_000, 60_000, 1)?;
-    assert!(rt; refused_in(2, job.answers(), 15, 0));
+    assert!(rt; job.answers() == Err(Fault::new(Layer::Sheet, Cause::SettingAbsent, 0)));
     job.set(0, 100)?;
     job.set(2, 1)?;
-    assert!(rt; refused_in(2, job.answers(), 15, 1));
+    assert!(rt; job.answers() == Err(Fault::new(Layer::Sheet, Cause::SettingAbsent, 1)));
     Ok(())
 }

@@ -4,6 +4,7 @@ use editions::nehrp2003::Nehrp2003;
 use jobs::job::Job;
 use std::test::Fail;
 
+// Apart from the levels' test, for the reason that stands there.
 #[test]
 fn seventeen_walls(rt: HostRuntime) -> Result<(), Fail> {
     let mut job = Job::new(Nehrp2003);

@@ -1,5 +1,5 @@
 -- Each turn goes down to the next level, whose force keeps the shear within V.
-use Rattle.std.proofs.Common.{ℕ, ◌+◌, ◌*◌, ◌-◌, ap, ◌∙◌, arith}
+use Rattle.std.proofs.Common.{ℕ, ◌+◌, ◌*◌, ◌-◌, get_or, ap, sym, ◌∙◌, arith}
 use Rattle.std.proofs.lemmas.List.{length_push, get_or_default}
 use Rattle.sheets.specs.declared.bearing.Bearing.{Bearing}
 use Rattle.sheets.specs.Bearings.{ground}
@@ -28,7 +28,11 @@ with_force-descent-requires c =
 pub line-requires : goal.line-requires
 line-requires c =
     let t = turn _ _ c.next.new.self c.args.self.now.bearers.now c.args.forces.now (record { levels = cc; shares = cc; count = cc; even = c.requires.forces.long }) _ c.loop-k.yielded_by _ _ c.in-Some.is c.next.ensures.steps in
-    record { certain = c.requires.certain; place = omega (arith, t.place, t.below) }
+    record {
+      certain = c.requires.certain;
+      place = omega (arith, t.place, t.below);
+      bearer = t.bearer ∙ ap (λ (n : ℕ). get_or c.args.self.now.bearers.now n ground) (sym t.place);
+    }
 
 pub loop-k-preserved : goal.loop-k-preserved
 loop-k-preserved c =
