@@ -1,6 +1,6 @@
 //! The bytes of a listing and of a fault.
 ghost use Rattle.std.specs.Prelude.{◌≡◌, ◌+◌, ◌*◌, ◌≤◌, length};
-ghost use Rattle.text_bytes.specs.Writing.{Writes};
+ghost use Rattle.text_bytes.specs.Writing.{Room, Writes};
 ghost use Rattle.text_bytes.specs.Wrote.{Puts};
 ghost use Rattle.decks.specs.Listing.{line_bytes, lines_bytes, base_bytes, listing as listing_bytes, fault_bytes};
 
@@ -13,7 +13,7 @@ use text_bytes::put::Writer;
 
 /// Writes a level's line: height, force, shear and moment.
 fn put_line(writer: &mut Writer<'_>, line: Line)
-    requires { writer.old.at + 54 ≤ length writer.old.out.now }
+    requires { Room writer.old 54 }
     ensures writes { Writes writer.old (line_bytes line) writer.new }
     ensures bound { writer.new.at ≤ writer.old.at + 54 }
 {
@@ -25,7 +25,7 @@ fn put_line(writer: &mut Writer<'_>, line: Line)
 
 /// Writes a line for each level.
 fn put_lines(writer: &mut Writer<'_>, lines: &[Line])
-    requires { writer.old.at + 54 * length lines.now ≤ length writer.old.out.now }
+    requires { Room writer.old (54 * length lines.now) }
     ensures writes { Writes writer.old (lines_bytes lines.now) writer.new }
     ensures bound { writer.new.at ≤ writer.old.at + 54 * length lines.now }
 {
@@ -36,7 +36,7 @@ fn put_lines(writer: &mut Writer<'_>, lines: &[Line])
 
 /// Writes the base's line: 0, the base shear and the moment at the base.
 fn put_base(writer: &mut Writer<'_>, totals: Totals)
-    requires { writer.old.at + 39 ≤ length writer.old.out.now }
+    requires { Room writer.old 39 }
     ensures { Writes writer.old (base_bytes totals) writer.new }
 {
     writer.put_bytes(b"BASE 0 ");

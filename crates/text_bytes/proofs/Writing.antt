@@ -4,7 +4,7 @@ use borrow.Rule.Slice.PartMut.{put_mid}
 use Rattle.std.proofs.lemmas.List.{length-take, length-append, length-drop, drop_at, drop-drop, take-append-drop}
 use Rattle.std.proofs.lemmas.Slice.{take-put_mid, drop-put_mid}
 use Rattle.text_bytes.specs.declared.put.Writer.{Writer}
-use Rattle.text_bytes.specs.Writing.{Writes}
+use Rattle.text_bytes.specs.Writing.{Room, Writes}
 use Rattle.text_bytes.specs.Wrote.{wrote, Puts}
 
 -- it is what the library says of a write to a part of a slice
@@ -57,7 +57,7 @@ puts_kept xs ys os i u =
     ap (drop i) u.bytes ∙ drop_at ys (drop (0 + length ys) xs) i e ∙ ap (λ (n : ℕ). drop n xs) (sym u.ends)
 
 -- the same of a writer
-pub writes_part : (old new : Writer) (text zs : List ℕ) → old.at + length text ≤ length old.out.now → zs ≡ text → new.out.now ≡ put_mid old.at (old.at + length text - old.at) old.out.now zs → new.at ≡ old.at + length text → new.out.ghost_name ≡ old.out.ghost_name → Writes old text new
+pub writes_part : (old new : Writer) (text zs : List ℕ) → Room old (length text) → zs ≡ text → new.out.now ≡ put_mid old.at (old.at + length text - old.at) old.out.now zs → new.at ≡ old.at + length text → new.out.ghost_name ≡ old.out.ghost_name → Writes old text new
 writes_part old new text zs h e is end same =
     let p : new.out.now ≡ wrote old.out.now old.at text = is ∙ wrote_part old.out.now old.at text zs e in
     let l : length new.out.now ≡ length old.out.now = ap length p ∙ length_wrote old.out.now old.at text h in

@@ -1,6 +1,6 @@
 //! Texts and numbers written into a buffer, one after another.
 ghost use Rattle.std.specs.Prelude.{◌+◌, ◌≤◌, [], ◌∷◌, ◌++◌, length};
-ghost use Rattle.text_bytes.specs.Writing.{Writes};
+ghost use Rattle.text_bytes.specs.Writing.{Room, Writes};
 
 use itoa::{Buffer, Integer};
 
@@ -16,7 +16,7 @@ pub struct Writer<'a> {
 impl<'a> Writer<'a> {
     /// Writes `text`.
     pub fn put_bytes(&mut self, text: &[u8])
-        requires { self.old.at + length text.now ≤ length self.old.out.now }
+        requires { Room self.old (length text.now) }
         ensures { Writes self.old text.now self.new }
     {
         let end = self.at + text.len();
@@ -26,7 +26,7 @@ impl<'a> Writer<'a> {
 
     /// Writes `n` in decimal and then the byte `mark`.
     pub fn put_number<I: Integer>(&mut self, n: I, mark: u8)
-        requires { self.old.at + (I.MAX_STR_LEN + 1) ≤ length self.old.out.now }
+        requires { Room self.old (I.MAX_STR_LEN + 1) }
         ensures writes { Writes self.old (I.text n ++ (mark ∷ [])) self.new }
         ensures bound { self.new.at ≤ self.old.at + (I.MAX_STR_LEN + 1) }
     {
