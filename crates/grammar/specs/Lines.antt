@@ -2,6 +2,7 @@
 use Rattle.std.specs.Prelude.{◌≡◌, ℕ, Bool, true, false, cond, ◌&&◌, List, [], length, Some, None, Ok, Err, Option, Result, ◌==◌, slice_index_or}
 use Rattle.std.specs.Borrow.{Bor}
 use Rattle.std.specs.Option.{ok_or}
+use Rattle.text_bytes.specs.declared.fields.Fields.{Fields}
 use Rattle.text_bytes.specs.Numbers.{number_in}
 use Rattle.text_bytes.specs.Pieces.{has, before, after, others}
 use Rattle.faults.specs.declared.fault.Cause.TheVariants.{LineMalformed, FieldMalformed}
@@ -32,6 +33,23 @@ number_at k d = ok_or (number_in d) (misread k)
 
 abbrev pub edition_at : ℕ → List ℕ → Result Published Fault
 edition_at k d = then (number_at k d) (λ n. cond (n == 1) (Ok Nehrp2003) (Err (misread k)))
+
+-- the word, if there is one and it takes n fields
+abbrev pub fitting : Option Word → ℕ → Result Word Fault
+fitting None n = Err malformed
+fitting (Some w) n = cond (n == arity w) (Ok w) (Err malformed)
+
+-- the word of a line, without its ending, that has as many fields as the word takes
+abbrev pub word_in : List ℕ → Result Word Fault
+word_in line = fitting (word_of (before 32 line)) (length (others 32 line))
+
+-- what a line is split into
+pub record Split (line : List ℕ) (fields : Fields) : Type 0 where
+  pub word : fields.word.now ≡ before 32 line
+  pub count : fields.count ≡ length (others 32 line)
+  pub first : fields.first.now ≡ slice_index_or (others 32 line) 0 []
+  pub second : fields.second.now ≡ slice_index_or (others 32 line) 1 []
+  pub third : fields.third.now ≡ slice_index_or (others 32 line) 2 []
 
 -- the edition that the first line names, without its ending
 abbrev pub named_by : Option Word → List (List ℕ) → Result Published Fault

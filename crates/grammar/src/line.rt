@@ -1,7 +1,7 @@
 //! Reading one line.
 ghost use Rattle.std.specs.Prelude.{◌≡◌, true, false, Some, None, Ok, Err, Option, MatchResult};
 ghost use Rattle.text_bytes.specs.Pieces.{has, before, after};
-ghost use Rattle.grammar.specs.Lines.{malformed as malformed_of, misread as misread_of, number_at, edition_at, edition_in, placed, entry_from, entry_in, edition_line, entry_line, Reads};
+ghost use Rattle.grammar.specs.Lines.{malformed as malformed_of, misread as misread_of, number_at, edition_at, word_in, Split, edition_in, placed, entry_from, entry_in, edition_line, entry_line, Reads};
 
 use crate::entry::{Entry, Published};
 use crate::word::Word;
@@ -39,13 +39,23 @@ fn edition_at(text: &[u8], place: u32) -> Result<Published, Fault>
     Published::try_from(number).map_err(|_| misread(place))
 }
 
+/// The word of a line, without its ending, that has as many fields as the word takes, and the fields.
+fn word_in(line: &[u8]) -> Result<(Word, Fields<'_>), Fault>
+    ensures { MatchResult result (λ p. (word_in line.now ≡ Ok p.0) × Split line.now p.1) (λ f. word_in line.now ≡ Err f) }
+{
+    let fields = split_line(line);
+    match Word::of(fields.word) {
+        Some(word) if fields.count == word.arity() => Ok((word, fields)),
+        _ => Err(malformed()),
+    }
+}
+
 /// The edition that the first line names, without its ending.
 fn edition_in(line: &[u8]) -> Result<Published, Fault>
     ensures { result ≡ edition_in line.now }
 {
-    let fields = split_line(line);
-    match Word::of(fields.word) {
-        Some(Word::Edition) if fields.count == Word::Edition.arity() => edition_at(fields.first, 2),
+    match word_in(line)? {
+        (Word::Edition, fields) => edition_at(fields.first, 2),
         _ => Err(malformed()),
     }
 }
@@ -93,12 +103,11 @@ fn entry_of(word: Word, fields: Fields<'_>) -> Result<Option<Entry>, Fault>
 fn entry_in(line: &[u8], last: bool) -> Result<Option<Entry>, Fault>
     ensures { result ≡ entry_in last line.now }
 {
-    let fields = split_line(line);
-    match Word::of(fields.word) {
-        Some(word) if may_stand(word, last) && fields.count == word.arity() => {
-            entry_of(word, fields)
-        }
-        _ => Err(malformed()),
+    let (word, fields) = word_in(line)?;
+    if may_stand(word, last) {
+        entry_of(word, fields)
+    } else {
+        Err(malformed())
     }
 }
 
