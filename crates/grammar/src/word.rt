@@ -1,6 +1,5 @@
 //! The words of a deck.
-ghost use Rattle.std.specs.Prelude.{◌≡◌, find};
-ghost use Rattle.std.specs.Str.{bytes_eq};
+ghost use Rattle.std.specs.Prelude.{◌≡◌};
 ghost use Rattle.grammar.specs.Words.{word_of, spelling as spelling_of, arity as arity_of};
 
 /// The word that a line begins with.
@@ -13,7 +12,8 @@ pub enum Word {
     Sheet,
 }
 
-// A table that is searched, and not a conversion by a trait: a text is a word or none, and how each is spelt stands once.
+// A table that is searched, and no `TryFrom`: a conversion by a trait would want an error type of its own, which every caller would
+// turn into the one fault.
 impl Word {
     const ALL: [Word; 5] = [
         Word::Edition,
@@ -36,19 +36,11 @@ impl Word {
         }
     }
 
-    /// Whether a text is the word.
-    fn is(self, text: &[u8]) -> bool
-        ensures { result ≡ bytes_eq text.now (spelling_of self) }
-    {
-        let spelt = self.spelling();
-        text == spelt
-    }
-
     /// Which word a text is.
     pub fn of(text: &[u8]) -> Option<Word>
         ensures { result ≡ word_of text.now }
     {
-        Word::ALL.into_iter().find(|word| word.is(text))
+        Word::ALL.into_iter().find(|word| text == word.spelling())
     }
 
     /// How many numbers come after the word.
