@@ -9,7 +9,8 @@ use crate::entry::{Entry, Refusal};
 use crate::line::read_entry;
 use faults::fault::Fault;
 
-// A trait and not a closure: of what a closure changes in the job that it borrows, whoever made it learns nothing.
+// A trait and not a closure: whoever makes a closure learns what it changes in the job that it borrows only by an invariant on the
+// closure's captures, which is no plainer than this ghost member.
 /// What a deck's entries are handed to.
 pub trait Takes {
     // the state before, the entry, the fault if it was refused, and the state after
