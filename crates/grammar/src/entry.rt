@@ -29,7 +29,8 @@ impl TryFrom<u32> for Published {
 /// What a line between the edition and the sheet enters.
 #[derive(Clone, Copy, Debug, PartialEq, Eq)]
 pub enum Entry {
-    // A number and not a setting: what is no setting's number the job refuses, and not the grammar.
+    // By number, a rule of the project: a number that is no setting's is refused by the job, with its number as the place, and not
+    // by the grammar.
     Set {
         number: u32,
         value: u32,
