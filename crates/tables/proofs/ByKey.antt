@@ -1,5 +1,5 @@
 -- Records by a key: what a look-up answers, and what an entry or a removal leaves.
-use Rattle.std.proofs.Common.{◌≡◌, ◌≢◌, ℕ, zero, suc, ◌<◌, eqb, List, [], ◌∷◌, length, get_or, set, Some, None, Ok, Err, Option, Result, MatchOption, MatchResult, refl, arith}
+use Rattle.std.proofs.Common.{◌≡◌, ◌≢◌, ℕ, zero, suc, ◌<◌, eqb, List, [], ◌∷◌, length, get_or, set, Some, None, Ok, Err, Option, Result, MatchOption, MatchResult, refl, sym, ap, ◌∙◌, arith}
 use Rattle.std.proofs.lemmas.Bool.Decides.{nat_tests}
 use Rattle.std.specs.List.{insert, remove}
 use Rattle.std.specs.Map.{update}
@@ -92,3 +92,10 @@ lacks_found key xs k i lack = found_absent key xs k (λ j d within same. grind (
 pub placed : {R : Type 0} (key : R → ℕ) (xs : List R) (k : ℕ) (r : Result ℕ ℕ) (o : Option ℕ) → MatchResult r (Holds key xs k) (Lacks key xs k) → result_ok r ≡ o → MatchOption o (found key xs k ≡ None) (Holds key xs k)
 placed key xs k (Ok i) o has e = rw (← e) has
 placed key xs k (Err i) o lack e = rw (← e) (lacks_found key xs k i lack)
+
+-- what is read at the place of a key's record is what is found there, and nothing where there is none; k is the key that was sought
+pub read_at : {R : Type 0} (key : R → ℕ) (xs : List R) (k q i : ℕ) (x : R) → Rising key xs → Holds key xs k i → x ≡ get_or xs i x → k ≡ q → Some x ≡ found key xs q
+read_at key xs k q i x up has e same = ap Some e ∙ sym (holds_found key xs up k i has x) ∙ ap (found key xs) same
+
+pub none_at : {R : Type 0} (key : R → ℕ) (xs : List R) (k q : ℕ) → found key xs k ≡ None → k ≡ q → None ≡ found key xs q
+none_at key xs k q none same = sym none ∙ ap (found key xs) same

@@ -4,6 +4,7 @@ ghost use Rattle.tables.specs.Cells.{Whole};
 
 use std::alloc::AllocError;
 
+pub mod lent;
 pub mod places;
 
 // No model: `Copy` would want the model's inverse, and the list of the records forgets the cells past the count.

@@ -60,9 +60,9 @@ impl<R: Copy, const N: usize> Rows<R, N> {
         ensures { rows result ≡ insert (rows self) place x }
     {
         let mut cells = self.cells;
-        // to the end of the cells, the last of which is no record yet; a part of an array of `N` is not lent in one step
+        // up to the first cell that is no record yet; a part of an array of `N` is not lent in one step
         let all = &mut cells[..];
-        all[place..].rotate_right(1);
+        all[place..self.count + 1].rotate_right(1);
         all[place] = x;
         Rows {
             cells,
@@ -77,7 +77,7 @@ impl<R: Copy, const N: usize> Rows<R, N> {
     {
         let mut cells = self.cells;
         let all = &mut cells[..];
-        all[place..].rotate_left(1);
+        all[place..self.count].rotate_left(1);
         Rows {
             cells,
             count: self.count - 1,

@@ -11,7 +11,7 @@ use faults::fault::{Fault, Layer};
 
 impl<R: Keyed, const N: usize> Table<R, N> {
     /// The table with `x` at its key, in place of what stood there; none if it is full and has nothing at that key.
-    fn with(self, x: R) -> Option<Self>
+    pub fn with(self, x: R) -> Option<Self>
         requires { R.fits x ≡ true }
         ensures { MatchOption result (Full R.key N (listed self) (R.key x)) (λ t. Entered R.key N (listed self) (listed t) x) }
     {
@@ -27,7 +27,7 @@ impl<R: Keyed, const N: usize> Table<R, N> {
     }
 
     /// The table with nothing at the key `k`; none if nothing is there.
-    fn without(self, k: u32) -> Option<Self>
+    pub fn without(self, k: u32) -> Option<Self>
         ensures { MatchOption result (found R.key (listed self) k ≡ None) (λ t. Struck R.key (listed self) (listed t) k) }
     {
         let i = self.seek(k).ok()?;

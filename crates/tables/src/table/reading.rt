@@ -19,6 +19,14 @@ impl<R: Keyed + Default, const N: usize> Table<R, N> {
 }
 
 impl<R: Keyed, const N: usize> Table<R, N> {
+    /// No record; `blank` fills the cells, for a kind of record that has no default.
+    pub fn empty(blank: R) -> Self
+        ensures { listed result ≡ [] }
+    {
+        let rows = Rows::empty(blank);
+        Self { rows }
+    }
+
     /// How many records there are.
     pub fn len(&self) -> usize
         ensures count { result ≡ length (listed self.now) }
