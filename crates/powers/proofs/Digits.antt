@@ -154,6 +154,14 @@ at_roof roof e z = ap (λ (s : Progress). s.power) (after_one base roof e 11 z)
 pub sound_small : (roof h n k : ℕ) (p : Enclosure) → 0 < roof → 0 < n → Sound roof h n k p → Small p
 sound_small roof h n k p z y s = record { ordered = sound_lo roof h n k p z y s; top = s.top }
 
+pub after_small : (roof h e i : ℕ) → e ≤ base → 0 < roof → h ≤ roof → Small (after base roof h e i).power × Small (after base roof h e i).root
+after_small roof h e i u z l =
+    let w = after_works base roof h e i (omega arith) (omega arith) z l in
+    (sound_small roof h (2 ^ i) _ _ z (pow_pos i) w.power, sound_small roof h (2 ^ i) 1 _ z (pow_pos i) w.root)
+
+pub ratio_small : (roof h : ℕ) → 0 < roof → h ≤ roof → Small (ratio h roof)
+ratio_small roof h z l = sound_small roof h 1 1 (ratio h roof) z (omega arith) (ratio_sound roof h z l)
+
 -- a turn of the loop over the digits, and its end
 pub after_more : (n roof h e i : ℕ) (b : Bool) (s r : Progress) → 1 ≤ i → s ≡ after n roof h e (i - 1) → b ≡ eqb (digit n e i) 1
     → r ≡ taken b (deeper s) → r ≡ after n roof h e (i + 1 - 1)

@@ -1,32 +1,18 @@
 //! A number from 0 to 1, enclosed between two whole numbers of parts.
 ghost use Rattle.std.specs.Prelude.{◌≡◌, ◌<◌, ◌≤◌};
-ghost use Rattle.powers.specs.Powers.{ratio, rooted, times};
+ghost use Rattle.powers.specs.Powers.{Small, ratio, rooted, times};
 
 use crate::roots::{ceil_root, floor_root};
-use std::marker::Model;
 
 /// What stands for 1: an enclosure counts in parts of it.
 pub const SCALE: u64 = 67_108_864;
 
+// That the ends are in order and at most 1 is for clauses to say: a type that said it would ask it of whoever builds one.
 /// A number between `lo / SCALE` and `hi / SCALE`.
 #[derive(Clone, Copy, PartialEq, Eq, Debug, Default)]
 pub struct Enclosure {
     pub lo: u32,
     pub hi: u32,
-}
-
-impl Model for Enclosure {
-    ghost use Rattle.powers.specs.Ends.{Ends};
-
-    ghost Value = { Ends };
-
-    ghost use Rattle.powers.specs.Powers.{Small};
-
-    ghost view = { λ a. record { lo = a.lo; hi = a.hi } };
-
-    ghost invariant = { λ a. Small (record { lo = a.lo; hi = a.hi }) };
-
-    ghost inverse = { λ e. record { lo = e.lo; hi = e.hi } };
 }
 
 impl Enclosure {
@@ -46,7 +32,9 @@ impl Enclosure {
     /// The square root of the number.
     #[tactic(auto, using(crate::proofs::Root::roots_order, crate::proofs::Root::upper_least))]
     pub(crate) fn square_root(self) -> Enclosure
-        ensures { result ≡ rooted self }
+        requires { Small self }
+        ensures value { result ≡ rooted self }
+        ensures small { Small result }
     {
         Enclosure {
             lo: floor_root(self.lo as u64 * SCALE) as u32,
@@ -56,6 +44,7 @@ impl Enclosure {
 
     /// The product of two numbers.
     pub(crate) fn multiplied(self, by: Enclosure) -> Enclosure
+        requires { (Small self) × (Small by) }
         ensures { result ≡ times self by }
     {
         let lo = self.lo as u64 * by.lo as u64;

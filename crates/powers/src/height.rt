@@ -29,6 +29,7 @@ fn has_digit(e: u32, place: u32) -> bool
 impl Progress {
     /// Reads a digit: where it is 1, the power takes the root as a factor.
     fn with_digit(self, one: bool) -> Progress
+        requires { (Small self.power) × (Small self.root) }
         ensures { result ≡ taken one self }
     {
         if one {
@@ -43,6 +44,7 @@ impl Progress {
 
     /// Goes on to the next digit, of half the weight, and reads it.
     fn next(self, one: bool) -> Progress
+        requires { (Small self.power) × (Small self.root) }
         ensures { result ≡ taken one (deeper self) }
     {
         let deeper = Progress {

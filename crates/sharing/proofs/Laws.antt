@@ -1,11 +1,13 @@
 -- The laws of sharing by the running remainder.
-use Rattle.std.proofs.Common.{◌≡◌, ℕ, ◌+◌, ◌-◌, ◌*◌, ◌/◌, ◌<◌, ◌≤◌, List, map, length, get_or, take, drop, set, sum, sym, refl, ap, ◌∙◌, subst, ⊎_elim, add-mul, eq-or-lt_of_le, mul-le-mul_left, mul-zero, div-add-mod', mul-add, div-mul-le_self, le_of_mul-le-mul_right, mul-div_cancel, arith}
+use Rattle.std.proofs.Common.{◌≡◌, ℕ, ◌+◌, ◌-◌, ◌*◌, ◌/◌, ◌<◌, ◌≤◌, List, map, length, get_or, take, drop, set, sum, sym, refl, ap, ◌∙◌, subst, ⊎_elim, add-mul, mul-le-mul, eq-or-lt_of_le, mul-le-mul_left, mul-zero, div-add-mod', mul-add, div-mul-le_self, le_of_mul-le-mul_right, mul-div_cancel, arith}
 use native.Mathlib.Nat.{zero-div}
 use lib.ListN.{length-map}
-use Rattle.std.proofs.lemmas.List.Sums.{sum_by_more, sum_by_push, sum_by-take-le}
+use Rattle.std.specs.List.{AllByRecursion}
+use Rattle.std.proofs.ByRecursion.{All-get_or, sum_by_le}
+use Rattle.std.proofs.lemmas.List.Sums.{sum_by_more, sum_by_push, sum_by-take-le, sum-map}
 use Rattle.std.proofs.lemmas.List.{get_or-map, take_all, take_more_set, take-set-le, drop-set-lt}
 use Rattle.std.proofs.lemmas.Nat.{div-mul-add, le-div, div_below, mod_below}
-use Rattle.sharing.specs.Sharing.{Shared}
+use Rattle.sharing.specs.Sharing.{limit, Shared}
 
 -- one more bearer's stake
 pub stakes_more : {X : Type 0} (f : X → ℕ) (xs : List X) (i : ℕ) (x : X) (s : ℕ) → i < length xs → x ≡ get_or xs i x → s ≡ f x → sum (take (i + 1) (map f xs)) ≡ sum (take i (map f xs)) + s
@@ -102,3 +104,11 @@ shared_all A T r n stakes before after so et full room =
       most = λ k l. omega (arith, step k l, ceilings A (sum (take k stakes)) (get_or stakes k 0) (sum stakes) pos);
       kept = so.kept;
     }
+
+-- a read bearer's stake is within what is asked of all
+pub stake_within : {X : Type 0} (f : X → ℕ) (m : ℕ) (xs : List X) (i : ℕ) (x : X) (s : ℕ) → AllByRecursion (λ b. f b ≤ m) xs → i < length xs → x ≡ get_or xs i x → s ≡ f x → s ≤ m
+stake_within f m xs i x s all h e es =
+    omega (arith, All-get_or (λ b. f b ≤ m) xs i x h all, ap f e)
+
+pub total_le : {X : Type 0} (f : X → ℕ) (m : ℕ) (xs : List X) → AllByRecursion (λ b. f b ≤ m) xs → m ≤ limit → length xs ≤ 64 → sum (map f xs) ≤ 64 * limit
+total_le f m xs all hm hl = omega (arith, sum-map f xs, sum_by_le f m xs all, mul-le-mul hl hm)

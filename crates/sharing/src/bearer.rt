@@ -14,8 +14,7 @@ pub trait Bearer {
 
     /// The bearer's stake.
     fn stake(&self) -> u64
-        ensures value { result ≡ stake self.now }
-        ensures most { result ≤ GREATEST };
+        ensures { result ≡ stake self.now };
 
     ghost bounded: { GREATEST ≤ limit };
 }

@@ -1,12 +1,16 @@
 //! The sum of the stakes, and each bearer's part of an amount.
 ghost use Rattle.std.specs.Prelude.{◌≡◌, ◌*◌, ◌<◌, ◌≤◌, map, length, sum};
+ghost use Rattle.std.specs.List.{AllByRecursion};
 ghost use Rattle.sharing.specs.Sharing.{limit, Shared};
 
 use crate::bearer::Bearer;
 
+// `within` is asked of the bearers of a call, and not of their kind: a kind may have bearers whose stake is too great.
+
 /// The sum of the bearers' stakes.
 pub fn total_stake<B: Bearer>(bearers: &[B]) -> u64
     requires few { length bearers.now ≤ 64 }
+    requires within { AllByRecursion (λ b. B.stake b ≤ B.GREATEST) bearers.now }
     ensures sum { result ≡ sum (map B.stake bearers.now) }
     ensures most { result ≤ 64 * limit }
 {
@@ -17,6 +21,7 @@ pub fn total_stake<B: Bearer>(bearers: &[B]) -> u64
 /// due with the remainder of those before it, and its share goes to its place in `shares`.
 pub fn share<B: Bearer>(amount: u32, total: u64, bearers: &[B], shares: &mut [u32])
     requires amount { amount ≤ 1000000 }
+    requires within { AllByRecursion (λ b. B.stake b ≤ B.GREATEST) bearers.now }
     requires total { total ≡ sum (map B.stake bearers.now) }
     requires most { total ≤ 64 * limit }
     requires some { 0 < total }

@@ -14,6 +14,9 @@ use Rattle.sheets.specs.Shares.{Ready, low_share, at_roof}
 pub stake_le : (b : Bearing) → Borne b → stake b ≤ limit
 stake_le b h = mul-le-mul {n₂ = 60000} {m₂ = scale} h.weight (omega (arith, h.power))
 
+pub stakes_within : (bs : List Bearing) → AllByRecursion Borne bs → AllByRecursion (λ b. stake b ≤ limit) bs
+stakes_within bs h = All-weaker Borne (λ b. stake b ≤ limit) stake_le bs h
+
 pub stake_upper : (b : Bearing) → Borne b → stake b ≤ upper b
 stake_upper b h = mul-le-mul_left b.weight h.power.ordered
 

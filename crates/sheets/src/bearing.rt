@@ -43,7 +43,10 @@ impl Bearer for Bearing {
     ghost bounded = { Prim.search rules };
 
     /// The weight times the lower end of the height power.
-    fn stake(&self) -> u64 {
+    fn stake(&self) -> u64
+        ensures value { result ≡ stake_of self.now }
+        ensures most { result ≤ limit }
+    {
         self.weight as u64 * self.power.lo as u64
     }
 }

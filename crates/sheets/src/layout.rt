@@ -34,6 +34,7 @@ pub(crate) struct Layout<'a> {
 
 impl<'a> Layout<'a> {
     /// The answers' base shear, less the top force, is what these levels share.
+    #[tactic(auto, using(crate::proofs::Bounds::stakes_within))]
     pub(crate) fn of(answers: Answers, bearers: &'a [Bearing]) -> Layout<'a>
         requires lawful { Lawful answers }
         requires falling { Falling bearers.now }
@@ -86,6 +87,7 @@ impl<'a> Layout<'a> {
     }
 
     /// Shares the portion, and adds the top force at the roof: each level's force, to its place.
+    #[tactic(auto, using(crate::proofs::Bounds::stakes_within))]
     pub(crate) fn put_forces(&self, forces: &mut [u32])
         requires { length forces.old ≡ length self.now.bearers.now }
         ensures { Forces self.now.portion.amount self.now.top self.now.bearers.now forces.new }
