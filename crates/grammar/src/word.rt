@@ -40,7 +40,10 @@ impl Word {
     pub fn of(text: &[u8]) -> Option<Word>
         ensures { result ≡ word_of text.now }
     {
-        Word::ALL.into_iter().find(|word| text == word.spelling())
+        Word::ALL
+            .iter()
+            .find(|word| text == word.spelling())
+            .copied()
     }
 
     /// How many numbers come after the word.

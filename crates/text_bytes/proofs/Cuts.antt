@@ -37,9 +37,9 @@ module _ (c : ℕ) where
       ]
 
   -- the pieces one by one
-  pub none : (bs : List ℕ) → has c bs ≡ false → (before c bs ≡ bs) × (after c bs ≡ [])
-  none [] h = (refl, refl)
-  none (b ∷ bs) h = elim (cases_Bool (eqb b c)) [ inl t ↦ absurd (both_ways true (rw t at h) refl) | inr f ↦ let n = none bs (rw f at h) in rw f (ap (λ (z : List ℕ). b ∷ z) n.0, n.1) ]
+  pub none : (bs : List ℕ) → has c bs ≡ false → (before c bs ≡ bs) × (after c bs ≡ []) × (others c bs ≡ [])
+  none [] h = (refl, refl, refl)
+  none (b ∷ bs) h = elim (cases_Bool (eqb b c)) [ inl t ↦ absurd (both_ways true (rw t at h) refl) | inr f ↦ let n = none bs (rw f at h) in rw f (ap (λ (z : List ℕ). b ∷ z) n.0, n.1, n.2) ]
 
   pub first_other : (bs : List ℕ) → before c (after c bs) ≡ get_or (others c bs) 0 []
   first_other [] = refl

@@ -12,15 +12,15 @@ wrote_is : (xs : List ℕ) (at : ℕ) (ys : List ℕ) → wrote xs at ys ≡ put
 unfolding wrote
 wrote_is xs at ys = ap (λ (z : List ℕ). take at xs ++ (ys ++ z)) (sym (drop-drop (length ys) at xs))
 
-wrote_part : (xs : List ℕ) (at : ℕ) (ys zs : List ℕ) → zs ≡ ys → put_mid at (at + length ys - at) xs zs ≡ wrote xs at ys
+pub wrote_part : (xs : List ℕ) (at : ℕ) (ys zs : List ℕ) → zs ≡ ys → put_mid at (at + length ys - at) xs zs ≡ wrote xs at ys
 wrote_part xs at ys zs e = let k : at + length ys - at ≡ length ys = omega arith in rw (k, e) (sym (wrote_is xs at ys))
 
-length_wrote : (xs : List ℕ) (at : ℕ) (ys : List ℕ) → at + length ys ≤ length xs → length (wrote xs at ys) ≡ length xs
+pub length_wrote : (xs : List ℕ) (at : ℕ) (ys : List ℕ) → at + length ys ≤ length xs → length (wrote xs at ys) ≡ length xs
 unfolding wrote
 length_wrote xs at ys h = omega (arith, length-append {A = ℕ}, length-take {A = ℕ}, length-drop {A = ℕ})
 
 -- one text after another is both at once
-wrote_more : (xs : List ℕ) (at : ℕ) (ys zs : List ℕ) → at + length ys ≤ length xs → wrote (wrote xs at ys) (at + length ys) zs ≡ wrote xs at (ys ++ zs)
+pub wrote_more : (xs : List ℕ) (at : ℕ) (ys zs : List ℕ) → at + length ys ≤ length xs → wrote (wrote xs at ys) (at + length ys) zs ≡ wrote xs at (ys ++ zs)
 unfolding wrote
 wrote_more xs at ys zs h =
     let e = at + length ys in
@@ -32,7 +32,7 @@ wrote_more xs at ys zs h =
     ∙ ap (λ (q : List ℕ). (take at xs ++ ys) ++ (zs ++ q)) rest
     ∙ simp (append_assoc, length-append, add_assoc)
 
-puts_more : (xs : List ℕ) (at : ℕ) (ys zs os : List ℕ) (i : ℕ) (ps : List ℕ) (j : ℕ) → Puts xs at ys os i → Puts os i zs ps j → i ≤ length xs → Puts xs at (ys ++ zs) ps j
+pub puts_more : (xs : List ℕ) (at : ℕ) (ys zs os : List ℕ) (i : ℕ) (ps : List ℕ) (j : ℕ) → Puts xs at ys os i → Puts os i zs ps j → i ≤ length xs → Puts xs at (ys ++ zs) ps j
 puts_more xs at ys zs os i ps j u v h =
     let k : at + length ys ≤ length xs = omega arith in
     let l = length-append ys zs in
@@ -41,7 +41,7 @@ puts_more xs at ys zs os i ps j u v h =
       ends = omega arith;
     }
 
-puts_none : (xs : List ℕ) (at : ℕ) → Puts xs at [] xs at
+pub puts_none : (xs : List ℕ) (at : ℕ) → Puts xs at [] xs at
 unfolding wrote
 puts_none xs at = record { bytes = sym (ap (λ (n : ℕ). take at xs ++ drop n xs) (add-zero at) ∙ take-append-drop at xs); ends = omega arith }
 

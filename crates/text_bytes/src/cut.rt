@@ -21,5 +21,5 @@ pub fn cut_at(text: &[u8], mark: u8) -> Option<(&[u8], &[u8])>
 pub(crate) fn count(text: &[u8], mark: u8) -> usize
     ensures { result ≡ length (others mark text.now) }
 {
-    text.iter().filter(|b| **b == mark).count()
+    text.iter().map(|b| usize::from(*b == mark)).sum()
 }

@@ -1,24 +1,33 @@
--- Nine digits at most are parsed, and no other word is a number.
-use Rattle.std.proofs.Common.{ℕ, None, MatchOption}
-use Rattle.std.proofs.lemmas.Bool.{both_ways}
-use Rattle.text_bytes.specs.Numbers.{Number}
-use Rattle.text_bytes.proofs.Reading.{parsed, number_from, not_text, is_text, no_number}
+-- Each turn reads one digit more.
+use Rattle.std.proofs.Common.{◌<◌, Some, None, sym, ◌∙◌, arith, rules}
+use Rattle.text_bytes.proofs.Reading.{number_reads}
+use Rattle.text_bytes.proofs.Steps.{small, grows, in_range, step, stop, end}
 use Rattle.text_bytes.proofs.number.read_number.Goals as goal
 
-pub returns-in_err-text : goal.returns-in_err-text
-returns-in_err-text c =
-    let u = not_text c.args.word.now _ c.from_utf8.result c.from_utf8.ensures.cases c.in_err-text.ensures.value in
-    let h : (n : ℕ) → Number n c.args.word.now → ⊥ = λ n k. no_number n c.args.word.now u k in
-    rw c.from_residual.ensures (record { value = number_from c.args.word.now None h; reads = h })
+pub overflow_mul-number : goal.overflow_mul-number
+overflow_mul-number c = let i : c.loop-b.b-index < 9 = omega arith in let s = small c.loop-b.b-index c.loop-b.number i c.loop-b.invariant.1 in search rules
 
-pub returns-then-not-is_short_numeral : goal.returns-then-not-is_short_numeral
-returns-then-not-is_short_numeral c =
-    let h : (n : ℕ) → Number n c.args.word.now → ⊥ = λ n k. both_ways _ c.if-not-is_short_numeral.true (c.is_short_numeral.ensures.1 (k.1, k.2)) in
-    record { value = number_from c.args.word.now None h; reads = h }
+pub returns-in_err-number : goal.returns-in_err-number
+returns-in_err-number c =
+    let w = c.args.word.now in
+    let v = sym (in_range w c.loop-b.invariant.3 c.loop-b.invariant.2 ∙ c.loop-b.invariant.0 ∙ stop w c.loop-b.b-index c.loop-b.number c.loop-b-test.true (rw c.from.ensures at c.in_err-number.ensures.value)) in
+    rw c.from_residual.ensures (record { value = v; reads = number_reads w None v })
+
+pub overflow_add-number : goal.overflow_add-number
+overflow_add-number c =
+    let i : c.loop-b.b-index < 9 = omega arith in
+    let s = small c.loop-b.b-index c.loop-b.number i c.loop-b.invariant.1 in
+    let d : c.in_ok-number.field-0 < 10 = omega (arith, c.in_ok-number.ensures.value) in
+    search rules
+
+pub loop-b-preserved : goal.loop-b-preserved
+loop-b-preserved c =
+    let w = c.args.word.now in
+    let d = rw c.from.ensures at c.in_ok-number.ensures.value in
+    rw d.1 (c.loop-b.invariant.0 ∙ step w c.loop-b.b-index c.loop-b.number c.loop-b-test.true d.0, grows c.loop-b.b-index c.loop-b.number _ c.loop-b.invariant.1 d.0, c.loop-b.invariant.2, c.loop-b.invariant.3)
 
 pub returns : goal.returns
 returns c =
-    let t = is_text c.args.word.now _ c.from_utf8.result c.in_ok-text.text c.from_utf8.ensures.cases c.in_ok-text.ensures.value in
-    let p = parsed c.args.word.now c.from_str_radix.result (c.is_short_numeral.ensures.0 c.if-not-is_short_numeral.false) (rw t at c.from_str_radix.ensures.value) in
-    let h : MatchOption c.ok-2.result ((n : ℕ) → Number n c.args.word.now → ⊥) (λ n. Number n c.args.word.now) = rw c.ok-2.ensures.value p in
-    record { value = number_from c.args.word.now c.ok-2.result h; reads = h }
+    let w = c.args.word.now in
+    let v = sym (in_range w c.loop-b.invariant.3 c.loop-b.invariant.2 ∙ c.loop-b.invariant.0 ∙ end w c.loop-b.b-index c.loop-b.number c.loop-b-test.false) in
+    record { value = v; reads = number_reads w (Some c.loop-b.number) v }
