@@ -1,4 +1,4 @@
--- The first records of a row of cells, after one is put over another, put in, or taken out.
+-- The first records of a row of cells: one of them, and all after one is put over another.
 use Rattle.std.proofs.Common.{rules, ◌≡◌, ℕ, ◌<◌, ◌≤◌, List, length, get_or, take, set, arith}
 use Rattle.std.proofs.lemmas.Bool.{cases_eq}
 use Rattle.std.proofs.lemmas.List.{places, same_lists, length-set, get_or-take, get_or_default, get_or-set_same}
