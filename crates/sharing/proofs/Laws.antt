@@ -1,5 +1,5 @@
 -- The laws of sharing by the running remainder.
-use Rattle.std.proofs.Common.{◌≡◌, ℕ, ◌+◌, ◌-◌, ◌*◌, ◌/◌, ◌<◌, ◌≤◌, List, map, length, get_or, take, drop, set, sum, sym, refl, ap, ◌∙◌, subst, ⊎_elim, add-mul, mul-le-mul, eq-or-lt_of_le, mul-le-mul_left, mul-zero, div-add-mod', mul-add, div-mul-le_self, le_of_mul-le-mul_right, mul-div_cancel, arith}
+use Rattle.std.proofs.Common.{◌≡◌, ℕ, ◌+◌, ◌-◌, ◌*◌, ◌/◌, ◌%◌, ◌<◌, ◌≤◌, List, map, length, get_or, take, drop, set, sum, sym, refl, ap, ◌∙◌, subst, ⊎_elim, add-mul, mul-le-mul, eq-or-lt_of_le, mul-le-mul_left, mul-zero, div-add-mod', mul-add, div-mul-le_self, le_of_mul-le-mul_right, mul-div_cancel, arith}
 use native.Mathlib.Nat.{zero-div}
 use lib.ListN.{length-map}
 use Rattle.std.specs.List.{AllByRecursion}
@@ -81,6 +81,16 @@ share_le A T r i stakes before after s q r' so et es ed =
     le_of_mul-le-mul_right {k = T}
     (omega (arith, carry_more P T r A S s q r' so.carry ed, add-mul P q T, mul-le-mul_left A le)) pos
 
+-- one turn at a bearer that is read, in whatever width it is worked: its share is at most the amount, and the running law goes on
+pub turn : {X : Type 0} (f : X → ℕ) (xs : List X) {A T r i : ℕ} {before after : List ℕ} {x : X} {s q r' : ℕ} → Sofar A T r i (map f xs) before after → T ≡ sum (map f xs) →
+    length xs ≤ length before → length after ≡ length before → i < length xs → x ≡ get_or xs i x → s ≡ f x → q ≡ (A * s + r) / T → r' ≡ (A * s + r) % T →
+    (q ≤ A) × Sofar A T r' (i + 1) (map f xs) before (set after i q)
+turn f xs {A = A} {T = T} {r = r} {s = s} {q = q} {r' = r'} so et room same h e es eq er =
+    let more = stakes_more f xs _ _ _ h e es in
+    let parts : q * T + r' ≡ A * s + r = rw (eq, er) (div-add-mod' (A * s + r) T) in
+    let small : r' < T = rw er (mod_below (A * s + r) T (omega (arith, so.small))) in
+    (share_le _ _ _ _ _ _ _ _ _ _ so et more parts, sofar_more _ _ _ _ _ _ _ _ _ _ so (rw length-map h) (omega (arith, h, room, same)) more parts small)
+
 pub shared_all : (A T r n : ℕ) (stakes before after : List ℕ) → Sofar A T r n stakes before after → T ≡ sum stakes → length stakes ≤ n → length stakes ≤ length after →
     Shared A stakes before after
 shared_all A T r n stakes before after so et full room =
@@ -104,6 +114,11 @@ shared_all A T r n stakes before after so et full room =
       most = λ k l. omega (arith, step k l, ceilings A (sum (take k stakes)) (get_or stakes k 0) (sum stakes) pos);
       kept = so.kept;
     }
+
+-- after the last bearer
+pub turned : {X : Type 0} (f : X → ℕ) (xs : List X) {A T r n : ℕ} {before after : List ℕ} → Sofar A T r n (map f xs) before after → T ≡ sum (map f xs) →
+    length xs ≤ length before → length after ≡ length before → length xs ≤ n → Shared A (map f xs) before after
+turned f xs so et room same full = shared_all _ _ _ _ _ _ _ so et (rw length-map full) (rw length-map (omega (arith, room, same)))
 
 -- a read bearer's stake is within what is asked of all
 pub stake_within : {X : Type 0} (f : X → ℕ) (m : ℕ) (xs : List X) (i : ℕ) (x : X) (s : ℕ) → AllByRecursion (λ b. f b ≤ m) xs → i < length xs → x ≡ get_or xs i x → s ≡ f x → s ≤ m

@@ -2,9 +2,9 @@
 ghost use Rattle.std.specs.Prelude.{◌≡◌, ℕ, ◌≤◌};
 ghost use Rattle.sharing.specs.Sharing.{limit};
 
-/// A kind of bearer: each has a stake. Who shares over bearers shows that none is above the kind's greatest.
+/// A kind of bearer: each has a stake. Who sums stakes, or shares by them in 64 bits, shows that none is above the kind's greatest.
 pub trait Bearer {
-    /// The greatest stake that a bearer of the kind may share with.
+    /// The greatest stake of the kind that is summed, or shared by in 64 bits.
     const GREATEST: u64;
 
     // the constant, as clauses cite it

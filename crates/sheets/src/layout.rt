@@ -12,7 +12,7 @@ use crate::line::Line;
 use crate::portion::Portion;
 use editions::edition::Answers;
 use sharing::bearer::Bearer;
-use sharing::parts::{share, total_stake};
+use sharing::parts::{share_within, total_stake};
 
 /// What the roof has of the top force, and any other level.
 fn at_roof(top: u32, k: usize) -> u32
@@ -92,7 +92,7 @@ impl<'a> Layout<'a> {
         requires { length forces.old ≡ length self.now.bearers.now }
         ensures { Forces self.now.portion.amount self.now.top self.now.bearers.now forces.new }
     {
-        share(
+        share_within(
             self.portion.amount,
             self.portion.least,
             self.bearers,
@@ -140,7 +140,8 @@ impl<'a> Layout<'a> {
     {
         let roof = &self.bearers[0];
         let mut descent = Descent::at(roof.height);
-        // the lines by place: through a `zip` with `iter_mut` the proof would know no more of them than their number, as in `share`
+        // the lines by place, as in `share_within`: through a `zip` with `iter_mut` the proof would know no more of them than their
+        // number
         for (k, (bearer, force)) in self.bearers.iter().zip(forces).enumerate() {
             descent = descent.down_to(bearer.height).with_force(*force);
             lines[k] = self.line(k, bearer, *force, descent);

@@ -26,8 +26,8 @@ fn lay_out(answers: Answers, bearers: &[Bearing], lines: &mut [Line]) -> Result<
     if lines.len() < bearers.len() {
         return Err(Fault::new(Layer::Sheet, Cause::ListShort, bearers.len() as u32));
     }
-    // room for the most levels, of which a part is lent that is as long as the bearers: `share` fills a slice that is there, so an
-    // `ArrayVec` would first be filled with zeros
+    // room for the most levels, of which a part is lent that is as long as the bearers: `share_within` fills a slice that is there, so
+    // an `ArrayVec` would first be filled with zeros
     let mut room = [0u32; 64];
     let forces = &mut room[..bearers.len()];
     layout.put_forces(forces);

@@ -14,4 +14,6 @@ mod names;
 #[cfg(test)]
 mod refusals;
 #[cfg(test)]
+mod shares;
+#[cfg(test)]
 mod walls_full;
